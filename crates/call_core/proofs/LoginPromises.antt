@@ -16,20 +16,20 @@ use Rattle.call_core.specs.declared.report.Report.{Report}
 use Rattle.call_core.proofs.LoginReports as reports
 use Rattle.call_core.proofs.PolicyLimits.{limit_by-policy_limit, decoy_work-policy_limit, limit_in-allowance, limit_by-zero, IsLoginWork-zero_limit, not_Opens-zero_limit}
 
--- a call whose error isn't 0 returns 0
+-- A call whose error isn't 0 returns 0.
 Answers-zero : (result : ℤ) (report : Report) → Answers result report → (report.error ≢ 0) → result ≡ pos 0
 Answers-zero result report answers never = elim answers.0 [
   | inl one ↦ absurd (never (answers.1.0 one))
   | inr zero ↦ zero
 ]
 
--- with a budget of 0 and a valid method and rounds, the limit for a password of this length is that of the policy; it
--- is 0 if the password is too long or its new hash is above the policy's limit (`limit_by`)
+-- With a budget of 0 and a valid method and rounds, the limit for a password of this length is that of the policy; it
+-- is 0 if the password is too long or its new hash is above the policy's limit (`limit_by`).
 pub limit_of-policy : (number rounds budget len : ℕ) (scheme : Scheme) → IsSchemeMade TakesNewRounds number rounds scheme → budget ≡ twice
     → limit_of number rounds budget len ≡ limit_by scheme len
 limit_of-policy number rounds budget len scheme makes policy = rw policy (limit_in-allowance number rounds scheme Policy len makes)
 
--- `JudgesStoredHash` follows from the clauses of `log_in`, where `budget` is the limit of the login
+-- `JudgesStoredHash` follows from the clauses of `log_in`, where `budget` is the limit of the login.
 pub JudgesStoredHash_from_LogsIn : (password field : List ℕ) (number rounds budget : ℕ) (result : ℤ) (report : Report) → Answers result report
     → LogsIn password field number rounds budget report
     → (IsDead field → (report.error ≢ 0))
@@ -46,7 +46,7 @@ JudgesStoredHash_from_LogsIn password field number rounds budget result report a
 }
 
 -- `TreatsFieldsAlike` follows from the clauses of `log_in`, where the limit of the login is the one that the budget
--- means
+-- means.
 pub TreatsFieldsAlike_from_LogsIn : (password field : List ℕ) (number rounds budget : ℕ) (result : ℤ) (report : Report) → Answers result report
     → LogsIn password field number rounds (limit_of number rounds budget (length password)) report
     → (report.error ≡ 0 → Opens password field (limit_of number rounds budget (length password)))

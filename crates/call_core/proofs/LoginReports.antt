@@ -3,8 +3,8 @@
 -- `TreatsFieldsAlike` from the other lemmas, for mkpasswd_login and web_login.
 --
 -- Each proof goes through the cases of `LogsIn`: a refused password, a refused method or rounds, a field that can't be
--- checked and costs the decoy, and a hash that is compared. Two schemes that the same number and rounds make are equal
--- (`IsSchemeMade-unique`), so the scheme is the same in all cases.
+-- checked and gets the dummy hash, and a hash that is compared. Two schemes that the same number and rounds make are
+-- equal (`IsSchemeMade-unique`), so the scheme is the same in all cases.
 use Rattle.std.proofs.Common.{◌≡◌, ◌≤◌, ◌<◌, ◌⊎◌, ℕ, Bool, List, Err, length, nat_lt, if◌then◌else◌, false, true, ap, inl, inr, refl, sym, subst, arith, ◌∙◌, ◌≢◌}
 use Rattle.std.specs.Prelude.{IsTrue, MatchBool}
 use Rattle.std.specs.Str.{bytes_eq}
@@ -36,7 +36,7 @@ use Rattle.call_core.specs.Logins.{Agrees, Declines, IsHashWork, IsLoginWork, Is
 
 -- ---- The report in each branch of a login
 
--- `LogsIn` holds of the report of a login that can't check the stored hash, and makes and drops the decoy
+-- `LogsIn` holds of the report of a login that can't check the stored hash, and makes and drops the dummy hash.
 pub LogsIn-declined : (password field : List ℕ) (number rounds budget : ℕ) (scheme : Scheme) (refusal report : Report)
     → IsPassword password → IsSchemeMade TakesNewRounds number rounds scheme → IsCheckRefused password field budget refusal
     → Declines password (decoy scheme) budget refusal report → LogsIn password field number rounds budget report
@@ -46,7 +46,7 @@ LogsIn-declined password field number rounds budget scheme refusal report is mak
     let test : nat_lt budget (cost kept (length password)) ≡ true = grind arith in
     inl (is, inl (scheme, makes, inl (kept, spells, rw test (rw e at declines))))
 
--- `LogsIn` holds of the report of a login that compares the password's hash with the stored one
+-- `LogsIn` holds of the report of a login that compares the password's hash with the stored one.
 pub LogsIn-compared : (password field : List ℕ) (number rounds budget : ℕ) (scheme : Scheme) (kept : SettingValue) (misses : Reason) (report : Report)
     → IsPassword password → IsSchemeMade TakesNewRounds number rounds scheme → Spells field kept → cost kept (length password) ≤ budget
     → IsMiss field kept misses → Compares password kept field (if is_outdated_by kept.scheme scheme then 1 else 0) misses report
@@ -55,20 +55,20 @@ LogsIn-compared password field number rounds budget scheme kept misses report is
     let test : nat_lt budget (cost kept (length password)) ≡ false = grind arith in
     inl (is, inl (scheme, makes, inl (kept, spells, rw test (misses, miss, compares))))
 
--- if the scheme of a setting is outdated by a scheme, so is that of an equal setting by an equal scheme
+-- If the scheme of a setting is outdated by a scheme, so is that of an equal setting by an equal scheme.
 pub is_outdated_by-eq : (kept other : SettingValue) (scheme also : Scheme) → kept ≡ other → scheme ≡ also → IsTrue (is_outdated_by other.scheme also)
     → is_outdated_by kept.scheme scheme ≡ true
 is_outdated_by-eq kept other scheme also same made is = rw (same, made) is
 
 -- ---- The report of a login agrees with that of mkpasswd_verify
 
--- if an allocation failed, the scheme is one that allocates
+-- If an allocation failed, the scheme is one that allocates.
 allocates-refused_growth : (scheme : Scheme) (done : Work) → IsAfterRefusedGrowth no_work scheme done → allocates scheme ≡ true
 allocates-refused_growth (Scrypt params) done lacks = refl
 allocates-refused_growth Md5crypt done never = absurd never
 allocates-refused_growth (Shacrypt sha rounds) done never = absurd never
 
--- making the decoy does not change the cost in the report of a refusal
+-- Making the dummy hash does not change the cost in the report of a refusal.
 cost-Declines : (password : List ℕ) (kept : SettingValue) (budget : ℕ) (refusal report : Report)
     → Declines password kept budget refusal report → report.cost ≡ refusal.cost
 cost-Declines password kept budget refusal report declines = go (nat_lt budget (cost kept (length password))) declines where
@@ -80,7 +80,8 @@ cost-Declines password kept budget refusal report declines = go (nat_lt budget (
   go false (inl e) = ap (λ (r : Report). r.cost) e
   go false (inr (done, lacks, e)) = ap (λ (r : Report). r.cost) e
 
--- making the decoy changes the error of a refusal only to OutOfMemory, and only if scrypt lacks memory for the decoy
+-- Making the dummy hash changes the error of a refusal only to OutOfMemory, and only if scrypt lacks memory for the
+-- dummy hash.
 error-Declines : (password : List ℕ) (kept : SettingValue) (budget : ℕ) (refusal report : Report)
     → Declines password kept budget refusal report
     → (report.error ≡ refusal.error) ⊎ ((report.error ≡ (reason_row OutOfMemory).0) × (allocates kept.scheme ≡ true))
@@ -93,8 +94,8 @@ error-Declines password kept budget refusal report declines = go (nat_lt budget 
   go false (inl e) = inl (ap (λ (r : Report). r.error) e)
   go false (inr (done, lacks, e)) = inr (ap (λ (r : Report). r.error) e, allocates-refused_growth kept.scheme done lacks)
 
--- the work in the report of a login that can't check the stored hash is that of the decoy, or none if the decoy can
--- cost more than the budget (`IsHashWork`)
+-- The work in the report of a login that can't check the stored hash is that of the dummy hash, or none if the dummy
+-- hash can cost more than the budget (`IsHashWork`).
 work-Declines : (password : List ℕ) (kept : SettingValue) (budget : ℕ) (refusal report : Report) → refusal.work ≡ no_work
     → Declines password kept budget refusal report → IsHashWork password kept budget report.work
 work-Declines password kept budget refusal report idle declines = go (nat_lt budget (cost kept (length password))) declines where
@@ -117,12 +118,12 @@ Agrees_from_Declines password scheme budget reason most report declines = (
   ],
 )
 
--- the reason for a password that doesn't match is WrongPassword or Dead
+-- The reason for a password that doesn't match is WrongPassword or Dead.
 pub IsMiss-cases : (field : List ℕ) (kept : SettingValue) (misses : Reason) → IsMiss field kept misses → (misses ≡ WrongPassword) ⊎ (misses ≡ Dead)
 IsMiss-cases field kept misses (inl (wrong, whole)) = inl wrong
 IsMiss-cases field kept misses (inr (dead, cut)) = inr dead
 
--- a comparison reports what mkpasswd_verify does, except that Dead may replace WrongPassword
+-- A login that compares reports what mkpasswd_verify does, except that Dead may replace WrongPassword.
 Agrees-compared : (scheme : Scheme) (equal : Bool) (outdated : ℕ) (misses : Reason) (most : ℕ) (counts : Work) (report : Report) → (misses ≡ WrongPassword) ⊎ (misses ≡ Dead)
     → report ≡ (if equal then found outdated most counts else failed misses most counts)
     → Agrees scheme report (if equal then found 0 most counts else failed WrongPassword most counts)
@@ -130,7 +131,7 @@ Agrees-compared scheme false outdated misses most counts report (inl wrong) e = 
 Agrees-compared scheme false outdated misses most counts report (inr dead) e = rw (e, dead) (refl, inr (inl (refl, refl)))
 Agrees-compared scheme true outdated misses most counts report miss e = rw e (refl, inl refl)
 
--- for a field that spells a setting, the report of a login agrees with one that mkpasswd_verify can have
+-- For a field that spells a setting, the report of a login agrees with one that mkpasswd_verify can have.
 Agrees-checked : (over equal : Bool) (outdated : ℕ) (password field : List ℕ) (budget most : ℕ) (scheme : Scheme) (kept : SettingValue) (report : Report)
     → MatchBool over (Declines password (decoy scheme) budget (refused OverBudget most) report)
     ((misses : Reason) × IsMiss field kept misses
@@ -168,7 +169,7 @@ Agrees_from_LogsIn password field number rounds budget scheme report makes (inl 
 
 -- ---- Fields that a login can't check
 
--- a field that spells no setting within the budget can't be checked
+-- A field that spells no setting within the budget can't be checked.
 pub IsUncheckable-none_within : (password field : List ℕ) (budget : ℕ)
     → ((kept : SettingValue) → Spells field kept → cost kept (length password) ≤ budget → ⊥) → IsUncheckable password field budget
 IsUncheckable-none_within password field budget never = λ kept spells. go kept spells (nat_lt budget (cost kept (length password))) refl where
@@ -179,7 +180,7 @@ IsUncheckable-none_within password field budget never = λ kept spells. go kept 
 
 -- ---- The work of a login
 
--- the cost of a hash's work (`spent`) is at most the cost that is computed before hashing (`cost_by`)
+-- The cost of a hash's work (`spent`) is at most the cost that is computed before hashing (`cost_by`).
 spent-work : (scheme : Scheme) (password salt : List ℕ)
     → spent scheme (work password (record { scheme = scheme; salt = salt })) ≤ cost_by scheme (length password) (length salt)
 spent-work Md5crypt password salt = work_bytes-le-cost password (record { scheme = Md5crypt; salt = salt })
@@ -217,7 +218,7 @@ work-compared : (equal : Bool) (outdated most : ℕ) (misses : Reason) (counts :
 work-compared true outdated most misses counts = refl
 work-compared false outdated most misses counts = refl
 
--- for a field that spells a setting, the work of a login is that of the decoy or of a hash with that setting
+-- For a field that spells a setting, the work of a login is that of the dummy hash or of a hash with that setting.
 IsHashWork-checked : (above : Bool) (password field : List ℕ) (budget : ℕ) (scheme : Scheme) (kept : SettingValue) (outdated : ℕ) (report : Report)
     → nat_lt budget (cost kept (length password)) ≡ above
     → MatchBool above (Declines password (decoy scheme) budget (refused OverBudget (cost kept (length password))) report)
@@ -247,8 +248,8 @@ IsLoginWork_from_LogsIn password field number rounds budget report (inl (is, inl
       | inr old ↦ inr (kept, inl spells, old, spent-le-budget password kept budget _ old)
     ]
 
--- if the other arguments are valid, a login that can't check the stored hash refuses it, and makes the decoy if the
--- budget allows that
+-- If the other arguments are valid, a login that can't check the stored hash refuses it, and makes the dummy hash if
+-- the budget allows that.
 pub Declines_from_LogsIn : (password field : List ℕ) (number rounds budget : ℕ) (scheme : Scheme) (report : Report)
     → IsSchemeMade TakesNewRounds number rounds scheme → IsPassword password → IsUncheckable password field budget
     → LogsIn password field number rounds budget report
@@ -267,8 +268,8 @@ Declines_from_LogsIn password field number rounds budget scheme report makes is 
     let decoyed = rw above at checked in
     (refused OverBudget (cost kept (length password)), refl, rw same at decoyed)
 
--- if the other arguments are valid, the work of a login that can't check the stored hash is that of the decoy, or none
--- if the decoy can cost more than the budget (`IsHashWork`)
+-- If the other arguments are valid, the work of a login that can't check the stored hash is that of the dummy hash, or
+-- none if the dummy hash can cost more than the budget (`IsHashWork`).
 pub decoy_work-IsUncheckable : (password field : List ℕ) (number rounds budget : ℕ) (scheme : Scheme) (report : Report)
     → IsSchemeMade TakesNewRounds number rounds scheme → IsPassword password → IsUncheckable password field budget
     → LogsIn password field number rounds budget report → IsHashWork password (decoy scheme) budget report.work
@@ -276,8 +277,8 @@ decoy_work-IsUncheckable password field number rounds budget scheme report makes
     let declined = Declines_from_LogsIn password field number rounds budget scheme report makes is never logged in
     work-Declines password (decoy scheme) budget declined.0 report declined.1 declined.2
 
--- if the other arguments are valid and the budget admits the decoy, a login that can't check the stored hash does all
--- the work of the decoy, or the error is OutOfMemory
+-- If the other arguments are valid and the budget admits the dummy hash, a login that can't check the stored hash does
+-- all the work of the dummy hash, or the error is OutOfMemory.
 pub decoy_work-or_no_memory : (password field : List ℕ) (number rounds budget : ℕ) (scheme : Scheme) (report : Report)
     → IsSchemeMade TakesNewRounds number rounds scheme → IsPassword password → IsUncheckable password field budget
     → LogsIn password field number rounds budget report → cost (decoy scheme) (length password) ≤ budget
@@ -290,7 +291,7 @@ decoy_work-or_no_memory password field number rounds budget scheme report makes 
       | inr refused ↦ inr (ap (λ (r : Report). r.error) refused.2)
     ]
 
--- an invalid password is refused with the same report for every field
+-- An invalid password is refused with the same report for every field.
 pub report-password_refused : (password field : List ℕ) (number rounds budget : ℕ) (fault : PasswordFault) (report : Report)
     → IsPasswordRefused password fault → LogsIn password field number rounds budget report → report ≡ refused (password_reason fault) 0
 report-password_refused password field number rounds budget TooLong report broken (inl (is, rest)) = absurd (omega (arith, is.0, broken))
@@ -300,8 +301,8 @@ report-password_refused password field number rounds budget HasNul report broken
 report-password_refused password field number rounds budget TooLong report broken (inr (HasNul, also, e)) = absurd (omega (arith, also.0, broken))
 report-password_refused password field number rounds budget HasNul report broken (inr (TooLong, also, e)) = absurd (omega (arith, broken.0, also))
 
--- if the password is valid, a method or rounds that no new hash can have are refused with the same report for every
--- field
+-- If the password is valid, a method or rounds that no new hash can have are refused with the same report for every
+-- field.
 pub report-rounds_refused : (password field : List ℕ) (number rounds budget : ℕ) (reason : Reason) (report : Report) → IsPassword password
     → IsSchemeReading TakesNewRounds number rounds (Err reason) → LogsIn password field number rounds budget report → report ≡ refused reason 0
 report-rounds_refused password field number rounds budget reason report is reading (inr (TooLong, broken, e)) = absurd (omega (arith, is.0, broken))
@@ -319,7 +320,7 @@ report-rounds_refused password field number rounds budget reason report is (inr 
 
 -- ---- Only a dead hash is reported as Dead
 
--- a report with the number of another reason does not have the number of Dead
+-- A report with the number of another reason does not have the number of Dead.
 error-not_Dead : (reason : Reason) (report : Report) → reason ≢ Dead → report.error ≡ (reason_row reason).0 → report.error ≡ (reason_row Dead).0 → ⊥
 error-not_Dead reason report other is told = other (reason_row-unique reason Dead (sym is ∙ told))
 
@@ -331,7 +332,7 @@ Declines-not_Dead password kept budget reason most report other declines told =
       | inr lacks ↦ error-not_Dead OutOfMemory report (λ same. absurd (cc same)) lacks.0 told
     ]
 
--- if the report of a comparison is Dead, the stored hash is not whole
+-- If the report of a comparison is Dead, the stored hash is not whole.
 IsDead-compared : (equal : Bool) (outdated : ℕ) (field : List ℕ) (kept : SettingValue) (misses : Reason) (most : ℕ) (counts : Work) (report : Report)
     → Spells field kept → IsMiss field kept misses
     → report ≡ (if equal then found outdated most counts else failed misses most counts)
@@ -342,7 +343,7 @@ IsDead-compared false outdated field kept misses most counts report spells (inl 
     absurd (error-not_Dead WrongPassword report (λ same. absurd (cc same)) (rw wrong at (ap (λ (r : Report). r.error) e)) told)
 IsDead-compared false outdated field kept misses most counts report spells (inr (dead, cut)) e told = (kept, spells, cut)
 
--- if a login with a field that spells a setting reports Dead, the stored hash is dead
+-- If a login with a field that spells a setting reports Dead, the stored hash is dead.
 IsDead-checked : (above equal : Bool) (outdated : ℕ) (password field : List ℕ) (budget : ℕ) (scheme : Scheme) (kept : SettingValue) (report : Report)
     → Spells field kept
     → MatchBool above (Declines password (decoy scheme) budget (refused OverBudget (cost kept (length password))) report)
@@ -357,7 +358,7 @@ IsDead-checked false equal outdated password field budget scheme kept report spe
 IsDead-checked false equal outdated password field budget scheme kept report spells (misses, miss, inr (done, lacks, e)) told =
     absurd (error-not_Dead OutOfMemory report (λ same. absurd (cc same)) (ap (λ (r : Report). r.error) e) told)
 
--- Dead is not a reason to refuse a password, a setting or a field
+-- Dead is not a reason to refuse a password, a setting or a field.
 password_reason-not_Dead : (fault : PasswordFault) → password_reason fault ≢ Dead
 password_reason-not_Dead TooLong = λ same. absurd (cc same)
 password_reason-not_Dead HasNul = λ same. absurd (cc same)
@@ -377,7 +378,7 @@ IsFieldRefusal-not_Dead field reason (inl (is, empty)) = λ same. absurd (cc (is
 IsFieldRefusal-not_Dead field reason (inr (inl (is, locked))) = λ same. absurd (cc (is, same))
 IsFieldRefusal-not_Dead field reason (inr (inr (fault, stored, broken, is))) = λ same. setting_reason-not_Dead fault (sym is ∙ same)
 
--- if a login reports Dead, the stored hash is dead
+-- If a login reports Dead, the stored hash is dead.
 pub IsDead_from_LogsIn : (password field : List ℕ) (number rounds budget : ℕ) (report : Report) → LogsIn password field number rounds budget report
     → report.error ≡ (reason_row Dead).0 → IsDead field
 IsDead_from_LogsIn password field number rounds budget report (inr (fault, is, e)) told =

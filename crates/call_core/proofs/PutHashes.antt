@@ -15,7 +15,7 @@ use Rattle.call_core.specs.Private.Hashes.{IsPut, IsTold, MakesHash, MakesHashOf
 use Rattle.call_core.specs.Reports.{LacksMemory, Leaves, put, succeeded, token}
 use Rattle.call_core.specs.declared.report.Report.{Report}
 
--- making a hash and writing it has the effect of `PutsHash` in both cases of `admission`: a cost, or a refusal
+-- Making a hash and writing it has the effect `PutsHash` in both cases of `admission`: a cost, or a refusal.
 IsPut-admission : (password text : List ℕ) (kept : SettingValue) (lock old : List ℕ) (made : Result (List ℕ × Report) Report) (report : Report) (new : List ℕ)
     (admitted : Result ℕ Report)
     → MatchResult admitted
@@ -33,13 +33,13 @@ IsPut-admission password text kept lock old made report new (Ok most) (inr (told
     inr (rw left.0 lacks, (refl, left.1))
 IsPut-admission password text kept lock old made report new (Err refusal) e put = rw e at put
 
--- making a hash with a setting and writing it has the effect `PutsHash`
+-- Making a hash with a setting and writing it has the effect `PutsHash`.
 pub PutsHash_from_IsPut : (password : List ℕ) (kept : SettingValue) (budget : ℕ) (lock old : List ℕ) (made : Result (List ℕ × Report) Report) (report : Report) (new : List ℕ)
     → MakesHash password kept budget (length old) made → IsPut made lock old report new → PutsHash password kept budget lock old report new
 PutsHash_from_IsPut password kept budget lock old made report new makes put =
     IsPut-admission password (crypt password kept) kept lock old made report new (admission budget (length old) password kept) makes put
 
--- making a hash with the setting in a text and writing it has the effect `Hashes`, also if an argument is refused
+-- Making a hash with the setting in a text and writing it has the effect `Hashes`, also if an argument is refused.
 pub Hashes_from_IsPut : (password text : List ℕ) (budget : ℕ) (old : List ℕ) (made : Result (List ℕ × Report) Report) (report : Report) (new : List ℕ)
     → MakesHashOf password text budget (length old) made → IsPut made (token text) old report new → Hashes password text budget old report new
 Hashes_from_IsPut password text budget old made report new (inr (fault, is, e)) put = inr (fault, is, rw e at put)
@@ -47,14 +47,14 @@ Hashes_from_IsPut password text budget old made report new (inl (is, inr (fault,
 Hashes_from_IsPut password text budget old made report new (inl (is, inl (kept, spells, makes))) put =
     inl (is, inl (kept, spells, PutsHash_from_IsPut password kept budget (token text) old made report new makes put))
 
--- `put` writes a text that is shorter than `old` whole
+-- `put` writes the whole text if it is shorter than `old`.
 take-put : (text old : List ℕ) → length text < length old → take (length text) (put text old) ≡ text
 take-put text [] room = absurd (omega arith)
 take-put text (b ∷ rest) room =
     let whole : take (length rest) text ≡ text = take_all (length rest) text (omega arith) in
     rw whole (take-append_seam text _)
 
--- if the error is 0, what holds of the hash that was made holds of the first `length` bytes of `out`
+-- If the error is 0, what holds of the hash that was made holds of the first `length` bytes of `out`.
 pub IsPut-whole : (Holds : List ℕ → Type 0) (budget : ℕ) (lock old : List ℕ) (done : Work) (made : Result (List ℕ × Report) Report) (report : Report)
     (new : List ℕ) → IsTold budget (length old) done made → IsPut made lock old report new → IfOk made (λ both. Holds both.0)
     → report.error ≡ 0 → Holds (take report.length new)

@@ -22,7 +22,8 @@ use Rattle.call_core.specs.declared.limit.Limit.TheVariants.{Policy, Bytes}
 use Rattle.call_core.specs.declared.reason.Reason.TheVariants.{OverBudget}
 use Rattle.call_core.specs.declared.report.Report.{Report}
 
--- The budget that means the limit of the policy, which is about twice the cost of a new hash.
+-- The budget that means the limit of the policy, which is twice the cost of a new hash of a password of 64 bytes, or
+-- more (`policy_limit`).
 abbrev pub twice : ℕ
 twice = 0
 

@@ -1,4 +1,4 @@
--- A login: it checks a password against a stored hash, or does the work of a new hash if it can't check the stored one.
+-- A login, which checks a password against a stored hash, or makes a dummy hash if it can't check the stored one.
 --
 -- A password is the list of its bytes, `kept` is the setting that a text spells, and `most` is the cost of a hash: the
 -- most bytes that it digests and mixes.
@@ -25,8 +25,8 @@ use Rattle.call_core.specs.declared.reason.Reason.{Reason}
 use Rattle.call_core.specs.declared.reason.Reason.TheVariants.{Dead, OutOfMemory, OverBudget, WrongPassword}
 use Rattle.call_core.specs.declared.report.Report.{Report}
 
--- decoy scheme: the setting of the hash that a login makes and drops if it can't check the stored one. It is the
--- setting of a new hash, with a fixed salt.
+-- decoy scheme: the setting of the dummy hash, which a login makes and drops if it can't check the stored one. It is
+-- the setting of a new hash, with a fixed salt.
 abbrev pub decoy : Scheme → SettingValue
 decoy scheme = salted scheme (0 ∷ 0 ∷ 0 ∷ [])
 
@@ -39,9 +39,9 @@ IsHashWork password kept budget done =
     ((done ≡ work password kept) ⊎ IsAfterRefusedGrowth no_work kept.scheme done)
 
 -- Declines password kept budget refusal report: the report of a login that can't check the stored hash, and instead
--- makes and drops a hash with this setting. It is the refusal with the work of that hash. If scrypt lacked memory for
--- it, it is OutOfMemory with the work of the allocations before the one that failed. If the hash can cost more than the
--- budget, it is the refusal without work.
+-- makes and drops a hash with this setting. The report is the refusal with the work of that hash. If scrypt lacked
+-- memory for the hash, the error is OutOfMemory, and the work is that of the allocations before the one that failed. If
+-- the hash can cost more than the budget, the report is the refusal without work.
 abbrev pub Declines : List ℕ → SettingValue → ℕ → Report → Report → Type 0
 Declines password kept budget refusal report =
     MatchBool (nat_lt budget (cost kept (length password)))
@@ -57,8 +57,8 @@ IsMiss field kept reason = ((reason ≡ WrongPassword) × IsWhole field kept) �
 
 -- LogsIn password field number rounds budget report: the report of mkpasswd_login and web_login.
 --   a refused password, method or rounds  the reason, without work
---   a stored hash that can't be checked   the report of mkpasswd_verify, with the work of the decoy if the budget
---                                         allows it, or OutOfMemory if scrypt lacked memory for the decoy
+--   a stored hash that can't be checked   the report of mkpasswd_verify, with the work of the dummy hash if the budget
+--                                         allows it, or OutOfMemory if scrypt lacked memory for the dummy hash
 --   otherwise                             the report of mkpasswd_verify; after a match it says whether the scheme
 --                                         replaces the setting. Dead replaces WrongPassword if the hash is not whole
 abbrev pub LogsIn : List ℕ → List ℕ → ℕ → ℕ → ℕ → Report → Type 0
@@ -78,7 +78,7 @@ spent (Scrypt params) done = done.bytes + done.mixes * (128 * params.r)
 spent scheme done = done.bytes
 
 -- IsLoginWork password field number rounds budget done: the work of a login: none, or that of one hash, with the stored
--- setting or with the decoy. It costs at most the budget.
+-- setting or with that of the dummy hash. It costs at most the budget.
 abbrev pub IsLoginWork : List ℕ → List ℕ → ℕ → ℕ → ℕ → Work → Type 0
 IsLoginWork password field number rounds budget done =
     (done ≡ no_work) ⊎ ((kept : SettingValue)
@@ -92,7 +92,7 @@ IsUncheckable password field budget = (kept : SettingValue) → Spells field kep
 
 -- Agrees scheme report verified: the report of a login agrees with that of mkpasswd_verify, for a policy whose new
 -- hashes have this scheme. The cost is the same. The error is the same too, except that Dead may replace WrongPassword
--- and, if the decoy needs memory, OutOfMemory may replace a refusal without work.
+-- and, if the dummy hash needs memory, OutOfMemory may replace a refusal without work.
 abbrev pub Agrees : Scheme → Report → Report → Type 0
 Agrees scheme report verified =
     (report.cost ≡ verified.cost)
@@ -127,16 +127,20 @@ pub record JudgesStoredHash (password field : List ℕ) (number rounds budget : 
       → (verified : Report) × Verifies password field budget verified × Agrees scheme report verified
 
 -- TreatsFieldsAlike password field number rounds budget result report: what a login does alike for all fields, or for
--- all that it can't check, both for C and for web pages. Its limit is `limit_of`. The clauses on the decoy are for a
--- valid password, method and rounds. A decoy of scrypt can end at an allocation that fails.
+-- all that it can't check, both for C and for web pages. Its limit is `limit_of`. The clauses on the dummy hash
+-- (`decoy`) are for a valid password, method and rounds. A dummy hash of scrypt can end at an allocation that fails.
 --   one_hash      the work is that of at most one hash, within the limit
---   decoy_lacks   for a field that can't be checked, the decoy is made if the limit admits it, or scrypt lacks memory
---   decoy_made    under a policy's limit that admits a new hash, a field that can't be checked costs the decoy
---   decoy         a field that can't be checked costs the decoy if the limit admits that, and otherwise nothing
+--   decoy_lacks   for a field that can't be checked, the dummy hash is made if the limit admits it, or the error is
+--                 OutOfMemory
+--   decoy_made    under a policy's limit that admits a new hash, the dummy hash is made for each field that can't be
+--                 checked
+--   decoy         for a field that can't be checked, the work is that of the dummy hash if the limit admits it, and
+--                 otherwise none
 --   alike         an invalid password is refused with the same report for each field
 --   alike_rounds  with a valid password, a method or rounds that no new hash can have are refused with the same report
 --                 for each field
---   alike_long    under a policy's limit, a password whose new hash is above it gets in by no field, and costs nothing
+--   alike_long    under a policy's limit, a password whose new hash is above it lets nobody in, whatever the field, and
+--                 is not hashed
 pub record TreatsFieldsAlike (password field : List ℕ) (number rounds budget : ℕ) (result : ℤ) (report : Report) : Type 0 where
   pub one_hash : IsLoginWork password field number rounds (limit_of number rounds budget (length password)) report.work
   pub decoy_lacks : (scheme : Scheme) → IsSchemeMade TakesNewRounds number rounds scheme → IsPassword password

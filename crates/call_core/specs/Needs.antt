@@ -18,8 +18,8 @@ abbrev pub HashesWith : List ℕ → List ℕ → ℕ → SettingValue → Type 
 HashesWith password text budget kept = IsPassword password × Spells text kept × (cost kept (length password) ≤ budget)
 
 -- LoginHashesWith password field number rounds budget kept: with a valid password, method and rounds, a login hashes
--- the password with the setting `kept`: the stored one if it can be checked within the budget, and otherwise the decoy
--- if the budget allows that.
+-- the password with the setting `kept`: the stored one if it can be checked within the budget, and otherwise that of
+-- the dummy hash if the budget allows this hash.
 abbrev pub LoginHashesWith : List ℕ → List ℕ → ℕ → ℕ → ℕ → SettingValue → Type 0
 LoginHashesWith password field number rounds budget kept =
     (scheme : Scheme) × IsSchemeMade TakesNewRounds number rounds scheme × IsPassword password

@@ -83,8 +83,8 @@ fn hash_of<M: Memory>(
     hash_within(memory, &password, &setting, budget, room, meter)
 }
 
-/// Hashes the password, and returns the hash and the report, or the report of a refusal. A hash is refused if it can
-/// cost more than the budget, then if it and a zero byte need more than `room` bytes, and last if scrypt lacks memory.
+/// Hashes the password, and returns the hash and the report, or the report of the first of these refusals: the hash can
+/// cost more than the budget, the hash and a zero byte need more than `room` bytes, or scrypt gets no memory.
 pub(crate) fn hash_within<M: Memory>(
     memory: &mut M,
     password: &Password,

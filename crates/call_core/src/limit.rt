@@ -13,7 +13,8 @@ use crate::report::Report;
 use crypt_core::password::PASSWORD_LIMIT;
 use crypt_core::scheme::Scheme;
 
-/// A budget of 0 means the limit of the policy, which is about twice the cost of a new hash.
+/// The budget that means the limit of the policy ([`Scheme::policy_limit`]): twice the cost of a new hash of a password
+/// of 64 bytes, but at least a fixed number.
 const TWICE: u64 = 0;
 
 /// The limit on the cost of a login and of a new hash.

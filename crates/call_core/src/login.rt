@@ -1,5 +1,5 @@
-//! A login: it checks a password against a stored hash, which may be outdated. If the stored hash can't be checked, the
-//! login hashes the password as for a new hash instead, so that its time does not show that.
+//! A login, which checks a password against a stored hash. If it can't check the stored hash, it hashes the password as
+//! for a new hash instead, so that such an account is not answered faster than others.
 ghost use Rattle.std.specs.Prelude.{◌≡◌, ◌≤◌, ◌⊎◌, ◌≢◌, length};
 ghost use Rattle.prims_core.specs.Work.{no_work};
 ghost use Rattle.crypt_core.specs.Needs.{AreEnough};
@@ -27,10 +27,15 @@ use crypt_core::setting::Setting;
 use crypt_core::stored::StoredHash;
 use prims_core::meter::Meter;
 
-/// Checks the password against the stored hash if the limit allows the check. If the field has no stored hash, or the
-/// limit does not allow its check, the call makes a decoy, which is a hash like a new one, and drops it. It makes no
-/// decoy above the limit, and hashes nothing if it refuses the password, the method or the rounds. After a match,
-/// `outdated` in the report says whether a new hash with the method and the rounds would replace the stored one.
+/// Checks the password against the stored hash, and reports whether it matches. After a match, `outdated` in the report
+/// says whether a new hash with the method and the rounds would replace the stored one.
+///
+/// A field can't be checked if it is empty, locked, of another scheme or without a valid setting, or if the check can
+/// cost more than the limit. For each such field the call makes a dummy hash, which it drops: it hashes the password
+/// with the method, the rounds and a fixed salt, unless that can cost more than the limit.
+///
+/// If the call refuses the password, the method or the rounds, it hashes nothing, whatever the field is. If scrypt gets
+/// no memory for the hash, the error is `OutOfMemory`.
 pub fn log_in<M: Memory>(
     memory: &mut M,
     password: &[u8],
@@ -72,6 +77,7 @@ pub fn log_in<M: Memory>(
             )
         }
         Err(refused) => {
+            // The hash is dropped, so its salt need not be random.
             let decoy = Setting::salted(request.scheme, [0; 3]);
             decline(
                 memory,
@@ -97,9 +103,9 @@ fn miss_of(stored: &StoredHash<'_>) -> Reason
     }
 }
 
-// Makes and drops a hash with the setting `decoy`, if the budget allows it, and returns the refusal with the work of
-// that hash. If scrypt gets no memory for the decoy, the call is faster than usual, so its error is `OutOfMemory`
-// instead.
+// Makes and drops a dummy hash with the setting `decoy`, if the budget allows it, and returns the refusal with the work
+// of that hash. If scrypt gets no memory for the dummy hash, the call takes less time than a check, and the field's
+// error would hide that; so the error is `OutOfMemory` instead.
 fn decline<M: Memory>(
     memory: &mut M,
     password: &Password,

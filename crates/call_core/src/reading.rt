@@ -116,7 +116,7 @@ pub(crate) fn given_setting(number: u32, rounds: u32, salt: &[u8]) -> Result<Set
     Ok(setting)
 }
 
-// Returns whether the scheme's rounds differ from `rounds`, the number that was asked for, because that was clamped.
+// Returns whether the scheme has other rounds than the caller asked for (`rounds`), because SHA-crypt clamped them.
 // Rounds of 0 mean the recommended rounds, which are never clamped.
 fn is_clamped(scheme: &Scheme, rounds: u32) -> bool
     ensures { IsTrue result ↔ IsClamped scheme.now rounds }

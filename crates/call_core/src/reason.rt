@@ -1,5 +1,6 @@
 //! The reasons why a call did not do what its name says, with their numbers and messages. tools/reasons checks that
-//! `c/mkpasswd.h` has the same list, and makes the lists of other languages from it.
+//! `c/mkpasswd.h` has the same list as the definition (specs/Reasons.antt), and makes the lists of other languages from
+//! that header.
 ghost use Rattle.std.specs.Prelude.{◌≡◌, IfSome};
 ghost use Rattle.call_core.specs.Reasons.{reason_numbered, reason_row};
 

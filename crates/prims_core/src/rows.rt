@@ -51,8 +51,8 @@ impl Rows for Vec<u32> {
         self.clear();
     }
 
-    // The block is loaded as one vector, as the mixing loads it, so the processor loads it only once. The caller
-    // guarantees the capacity, so no test of it puts a branch into the mixing's loop.
+    // The block is loaded as one vector, as the mixing loads it, so the processor loads it only once. The precondition
+    // guarantees the capacity, so the words are pushed without a test, which would put a branch into the mixing's loop.
     #[inline(always)]
     fn push_block(&mut self, block: &[u32]) {
         'appending: for word in u32x16::from_slice(block).to_array() {
@@ -113,9 +113,9 @@ impl<'a> Rows for LentRows<'a> {
 }
 
 /// Replaces all rows by `count` new ones, as the first loop of scryptROMix does (RFC 7914, section 5, step 2): row `i`
-/// is `x` after `i` mixings. Afterwards `x` is mixed `count` times, and the meter has counted these mixings. In `x` and
-/// in the rows, blocks are in diagonal order. One mixing reads `x` and writes `y`, and the next one reads `y` and
-/// writes `x`; so what `y` holds before the call does not matter.
+/// is `x` after `i` mixings. Afterwards `x` has been mixed `count` times, and the meter has counted these mixings. In
+/// `x` and in the rows, blocks are in diagonal order. One mixing reads `x` and writes `y`, and the next one reads `y`
+/// and writes `x`; so what `y` holds before the call does not matter.
 ///
 /// Preconditions:
 ///

@@ -1,6 +1,6 @@
 -- The clause of `login_need` at three of its returns: with the need of the stored hash if that can be checked, with the
--- need of the decoy if the limit allows it, and with no need if the limit allows neither. At each return, a setting of
--- which `LoginHashesWith` holds is the one that the call found, or contradicts its tests of the limit.
+-- need of the dummy hash if the limit allows it, and with no need if the limit allows neither. At each return, a
+-- setting of which `LoginHashesWith` holds is the one that the call found, or contradicts its tests of the limit.
 use Rattle.std.proofs.Common.{◌≡◌, ◌≤◌, ◌<◌, length, arith, inl, inr, refl, rules}
 use Rattle.crypt_core.specs.Needs.{bytes_by, words_by}
 use Rattle.crypt_core.specs.Work.{cost}

@@ -9,7 +9,7 @@ use Rattle.call_core.proofs.PutNewHashes.{not_three-false, MakesHashAnew-numbers
 use Rattle.call_core.proofs.MadeSchemes.{is_outdated_by-self, IsSchemeMade-TakesRounds}
 use Rattle.call_core.proofs.new_hash.new_hash_of.Goals as goal
 
--- a list of length 3 consists of its items 0, 1 and 2
+-- A list of length 3 consists of its items 0, 1 and 2.
 length-three : (numbers : List ℕ) → length numbers ≡ 3 → numbers ≡ slice_index numbers 0 ∷ slice_index numbers 1 ∷ slice_index numbers 2 ∷ []
 length-three [] few = absurd (omega (arith, few))
 length-three (a ∷ []) few = absurd (omega (arith, few))

@@ -8,7 +8,7 @@ use Rattle.call_core.specs.declared.report.Report.{Report}
 use Rattle.call_core.proofs.MadeSchemes.{OnScheme-refused}
 use Rattle.call_core.proofs.reading.read_request.Goals as goal
 
--- if an error equals a report, what holds of the report holds of the error
+-- If an error equals a report, what holds of the report holds of the error.
 IfErr-report : {A : Type 0} → (made : Result A Report) (report : Report) (P : Report → Type 0) → IsErrAnd made (λ told. told ≡ report) → P report → IfErr made P
 IfErr-report (Ok a) report P is holds = tt
 IfErr-report (Err told) report P is holds = rw is holds
