@@ -323,7 +323,8 @@ fn lines_to_check(rt: HostRuntime) -> Result<(), Fail> {
     want_all(&rt, rt.alloc(), rows)
 }
 
-// A line that can cost more than the budget is refused, and nothing is hashed.
+// A line that can cost more than the budget is refused, and nothing is hashed. With `--rehash`, the budget must cover both
+// the check and the new hash: here 33656996 and 36239, together 33693235.
 #[test]
 fn budgets(rt: HostRuntime) -> Result<(), Fail> {
     const ANN_LINE: &str = "ann:$1$xxxxxxxx$UYCIxa628.9qXjpQCjM4a.:password";
@@ -372,7 +373,8 @@ fn budgets(rt: HostRuntime) -> Result<(), Fail> {
     Ok(())
 }
 
-// A line as long as the limit and longer ones, whose names are too long too, and a password of one byte too many.
+// Lines of the greatest length and longer ones, and a password of one byte too many. The lines have no colon, so the name
+// is too long in each of them; but the length of the line is checked first.
 #[test]
 fn long_inputs(rt: HostRuntime) -> Result<(), Fail> {
     const ONE: &[&str] = &["-s"];
@@ -413,6 +415,7 @@ fn a_long_password(rt: HostRuntime) -> Result<(), Fail> {
     Ok(())
 }
 
+// A command that needs more I/O calls than it may make ends with status 3.
 #[test]
 fn turns(rt: HostRuntime) -> Result<(), Fail> {
     const ONE: &[&str] = &["-m", "md5crypt", "-S", "xxxxxxxx", "password"];

@@ -53,7 +53,8 @@ fn bounds(rt: HostRuntime) -> Result<(), Fail> {
     Ok(())
 }
 
-// The number of digests does not depend on the length of the password.
+// The number of digests does not depend on the length of the password. The rounds are clamped to 999999999, and
+// SHA-crypt makes four digests before the first round.
 #[test]
 fn digests_of_many_rounds(rt: HostRuntime) -> Result<(), Fail> {
     let setting = Setting::read(b"$5$rounds=123456789012$ab")?;

@@ -12,7 +12,7 @@ use std::alloc::Global;
 use std::process::Abort;
 use std::test::Fail;
 
-// Keys, texts and tags of the test cases 1 to 4, 6 and 7 in RFC 4231, section 4.
+// Keys, texts and tags of the test cases 1 to 4, 6 and 7 in RFC 4231, section 4. Case 5 truncates its tag.
 const TAGS: &[(&[u8], &[u8], &str)] = &[
     (
         &[0x0b; 20],
@@ -252,9 +252,9 @@ struct Row {
 }
 
 // The first three are from RFC 7914, section 12, whose fourth vector needs a table of 1 GiB, too much for a test. The
-// fourth is the first with half of its bytes. The others come from Python's `hashlib`: 64 and 65 bytes of password, as
-// HMAC digests a longer key than 64 bytes; N of 2; a result that ends in a part of a block; no bytes; many parts; and a
-// part of many blocks.
+// fourth is the first with half of its bytes. The others come from Python's `hashlib`: passwords of 64 and 65 bytes, as
+// HMAC digests a key of more than 64 bytes; N of 2; a result that ends in a part of a block; no bytes; many parts; and
+// a part of many blocks.
 const ROWS: &[Row] = &[
     Row {
         password: b"",
@@ -429,7 +429,7 @@ fn want_lent(
     Ok(())
 }
 
-// scrypt in lent memory: exactly as much as it needs, which does not hold zeros, and a word or a byte less.
+// Runs scrypt in exactly as much lent memory as it needs, filled with ones instead of zeros, and in a word or byte less.
 #[test]
 fn bytes_by_scrypt_in_lent_memory(rt: HostRuntime) -> Result<(), Fail> {
     let alloc = rt.alloc();

@@ -7,8 +7,8 @@ use std::alloc::Global;
 use std::process::Abort;
 use std::test::Fail;
 
-// Asserts which rule a line breaks: `inspect` returns its error, and a command prints the same message. A line that
-// breaks no rule has a locked account here, so the command hashes nothing.
+// Asserts which rule a line breaks: `inspect` returns its error, and a command prints the same message. The lines that
+// break no rule are of locked accounts, so the command hashes nothing.
 fn want_rule(
     rt: &impl Abort,
     alloc: Global,
