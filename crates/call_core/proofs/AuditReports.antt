@@ -59,7 +59,7 @@ work-with_scheme Md5crypt report = refl
 work-with_scheme (Shacrypt sha rounds) report = refl
 work-with_scheme (Scrypt params) report = refl
 
--- The report of a hash with any standing has no work.
+-- The report of a hash has no work, whatever the standing of the hash.
 pub work-standing_report : (standing : Standing) (most : ℕ) → (standing_report standing most).work ≡ no_work
 work-standing_report standings.OverBudget most = refl
 work-standing_report standings.Dead most = refl

@@ -17,7 +17,7 @@ use Rattle.call_core.specs.declared.report.Report.{Report}
 pub not_fits-IsDead : (password field : List ℕ) (kept : SettingValue) → Spells field kept → crypt password kept ≡ field → IsDead field → ⊥
 not_fits-IsDead password field kept spells fits dead = dead.2 (IsWhole-from_Fits password field dead.0 dead.1 (kept, spells, fits))
 
--- The costs of equal settings are not one above the budget and one within it.
+-- Of two equal settings, one can't cost more than the budget while the other costs at most the budget.
 pub cost-not_above : (password : List ℕ) (budget : ℕ) (kept other : SettingValue) → kept ≡ other
     → budget < cost kept (length password) → cost other (length password) ≤ budget → ⊥
 cost-not_above password budget kept other same above low =

@@ -1,7 +1,7 @@
 //! The tests by topic, from the alphabet up to whole commands, and helpers that they share.
 //!
-//! Where a test asserts that numbers of its own table are in a range, the checker needs that to prove the precondition
-//! of the next call.
+//! Where a test asserts that numbers of its own table are in a range, the assertion lets the checker prove the
+//! precondition of the next call.
 
 mod alphabet;
 mod commands;

@@ -28,7 +28,7 @@ fn main(rt: HostRuntime) -> ExitCode {
     };
     let status = match arguments {
         Ok(arguments) => {
-            // `run_command` seeds the generator by `make` if it hashes or checks passwords. Help needs no seed.
+            // `run_command` calls `make` only if it hashes or checks passwords, so `--help` works without a seed.
             let mut generator: Option<StdRng> = None;
             let mut make = || make_rng::<StdRng, HostRuntime>(&rt).ok();
             run_command(

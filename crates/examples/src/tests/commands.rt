@@ -323,8 +323,8 @@ fn lines_to_check(rt: HostRuntime) -> Result<(), Fail> {
     want_all(&rt, rt.alloc(), rows)
 }
 
-// A line that can cost more than the budget is refused, and nothing is hashed. With `--rehash`, the budget must cover both
-// the check and the new hash: here 33656996 and 36239, together 33693235.
+// A line that can cost more than the budget is refused, and nothing is hashed. With `--rehash`, the budget must cover
+// both the check and the new hash: here 33656996 and 36239, together 33693235.
 #[test]
 fn budgets(rt: HostRuntime) -> Result<(), Fail> {
     const ANN_LINE: &str = "ann:$1$xxxxxxxx$UYCIxa628.9qXjpQCjM4a.:password";
@@ -373,8 +373,8 @@ fn budgets(rt: HostRuntime) -> Result<(), Fail> {
     Ok(())
 }
 
-// Lines of the greatest length and longer ones, and a password of one byte too many. The lines have no colon, so the name
-// is too long in each of them; but the length of the line is checked first.
+// Lines of the greatest length and longer ones, and a password of one byte too many. The lines have no colon, so each
+// has a name that is too long, but the length of the line is checked first.
 #[test]
 fn long_inputs(rt: HostRuntime) -> Result<(), Fail> {
     const ONE: &[&str] = &["-s"];

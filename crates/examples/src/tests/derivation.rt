@@ -429,7 +429,7 @@ fn want_lent(
     Ok(())
 }
 
-// Runs scrypt in exactly as much lent memory as it needs, filled with ones instead of zeros, and in a word or byte less.
+// Runs scrypt in exactly as much lent memory as it needs, filled with ones, not zeros, and in a word or a byte less.
 #[test]
 fn bytes_by_scrypt_in_lent_memory(rt: HostRuntime) -> Result<(), Fail> {
     let alloc = rt.alloc();

@@ -131,7 +131,7 @@ fn hashes(rt: HostRuntime) -> Result<(), Fail> {
 }
 
 // Checks passwords in lent memory. First it is exactly as much as the stored hash needs, and filled with ones, as lent
-// memory need not hold zeros. Then it is a word or a byte less: scrypt is refused, but md5crypt needs no memory.
+// memory need not hold zeros. Then it is a word or a byte less: scrypt lacks memory, and md5crypt needs none.
 #[test]
 fn hashes_in_lent_memory(rt: HostRuntime) -> Result<(), Fail> {
     let alloc = rt.alloc();
@@ -172,7 +172,7 @@ fn hashes_in_lent_memory(rt: HostRuntime) -> Result<(), Fail> {
         let another = Password::new(b"another")?;
         let fits = stored.matches(&mut lent, &another, &mut Meter::new());
         want(&rt, fits, Ok(false), "another password");
-        // What a check in too little memory returns.
+        // A check in too little memory returns this.
         let refused = if need.words == 0 {
             Ok(true)
         } else {

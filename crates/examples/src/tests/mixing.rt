@@ -43,8 +43,8 @@ fn a_block(rt: HostRuntime) -> Result<(), Fail> {
     Ok(())
 }
 
-// `salsa8`, which works in lanes, gives what `word_by_word` gives for 64 blocks. The first block is the words 0 to 15, and
-// each later one is the result for the block before it.
+// `salsa8`, which works in lanes, gives what `word_by_word` gives for 64 blocks. The first block is the words 0 to 15,
+// and each later one is the result for the block before it.
 #[test]
 fn lanes_as_word_by_word(rt: HostRuntime) {
     let mut block = [0, 1, 2, 3, 4, 5, 6, 7, 8, 9, 10, 11, 12, 13, 14, 15];
@@ -69,8 +69,8 @@ fn word_by_word(block: [u32; 16]) -> [u32; 16] {
     sum
 }
 
-// Returns the block after the quarter rounds of its columns and then of its rows. The remainders change no index; by them
-// the checker sees that each index is below 16.
+// Returns the block after the quarter rounds of its columns and then of its rows. The remainders change no index, but
+// show the checker that each index is below 16.
 fn double_round(x: [u32; 16]) -> [u32; 16] {
     let mut x = x;
     for [a, b, c, d] in [
@@ -173,8 +173,8 @@ fn want_mixed(rt: &impl Abort, alloc: Global, r: usize, wanted: &str) -> Result<
     want_xor_mixed(rt, alloc, r, wanted)
 }
 
-// Splits words into two parts whose XOR is the words. One part is left in `words`. The other is written to `row`, and is
-// the numbers of a linear congruential generator.
+// Splits words into two parts whose XOR is the words. One part is left in `words`. The other is written to `row`: the
+// numbers of a linear congruential generator.
 fn split(words: &mut [u32], row: &mut [u32])
     requires { length words.old ≡ length row.old }
 {
