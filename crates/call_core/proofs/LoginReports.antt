@@ -108,6 +108,7 @@ work-Declines password kept budget refusal report idle declines = go (nat_lt bud
   go false (inr (done, lacks, e)) =
       inr (subst (λ (w : Work). IsAfterRefusedGrowth no_work kept.scheme w) (sym (ap (λ (r : Report). r.work) e)) lacks)
 
+-- A login that can't check the stored hash agrees with mkpasswd_verify, which reports the refusal.
 Agrees_from_Declines : (password : List ℕ) (scheme : Scheme) (budget : ℕ) (reason : Reason) (most : ℕ) (report : Report)
     → Declines password (decoy scheme) budget (refused reason most) report → Agrees scheme report (refused reason most)
 Agrees_from_Declines password scheme budget reason most report declines = (
@@ -149,6 +150,7 @@ Agrees-checked false equal outdated password field budget most scheme kept repor
 )
 Agrees-checked false equal outdated password field budget most scheme kept report (misses, miss, inr lacks) = (report, inr lacks, (refl, inl refl))
 
+-- For a valid method and rounds, the report of a login agrees with one that mkpasswd_verify can have.
 pub Agrees_from_LogsIn : (password field : List ℕ) (number rounds budget : ℕ) (scheme : Scheme) (report : Report)
     → IsSchemeMade TakesNewRounds number rounds scheme → LogsIn password field number rounds budget report
     → (verified : Report) × Verifies password field budget verified × Agrees scheme report verified
@@ -192,6 +194,7 @@ spent-no_work Md5crypt = refl
 spent-no_work (Shacrypt sha rounds) = refl
 spent-no_work (Scrypt params) = omega arith
 
+-- Allocations before one that failed cost nothing, since `spent` counts only bytes digested and mixed.
 spent-refused_growth : (scheme : Scheme) (done : Work) → IsAfterRefusedGrowth no_work scheme done → spent scheme done ≡ 0
 spent-refused_growth (Scrypt params) done (inl e) = rw e (spent-no_work (Scrypt params))
 spent-refused_growth (Scrypt params) done (inr (inl e)) = rw e (spent-no_work (Scrypt params))
@@ -233,6 +236,7 @@ IsHashWork-checked false password field budget scheme kept outdated report e (mi
     let same : report.work ≡ done = ap (λ (r : Report). r.work) told in
     inr (rw e (inr (subst (λ (w : Work). IsAfterRefusedGrowth no_work kept.scheme w) (sym same) lacks)))
 
+-- The work of a login is none, or that of one hash that costs at most the budget (`IsLoginWork`).
 pub IsLoginWork_from_LogsIn : (password field : List ℕ) (number rounds budget : ℕ) (report : Report) → LogsIn password field number rounds budget report
     → IsLoginWork password field number rounds budget report.work
 IsLoginWork_from_LogsIn password field number rounds budget report (inr (fault, is, e)) = inl (ap (λ (r : Report). r.work) e)

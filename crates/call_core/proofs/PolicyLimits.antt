@@ -77,6 +77,7 @@ limit_in-limit_bytes number rounds scheme Policy len makes short within =
 new_cost-le-64 : (scheme : Scheme) (len : ℕ) → len ≤ 64 → new_cost scheme len ≤ new_cost scheme 64
 new_cost-le-64 scheme len short = cost_by-le-at_64 scheme len (method_row (method_of scheme)).made_salt_length short
 
+-- The policy's limit admits a new hash of the empty password, since it admits one of a password of 64 bytes.
 pub new_cost-empty-le : (scheme : Scheme) → new_cost scheme 0 ≤ policy_limit scheme
 new_cost-empty-le scheme =
     let less = new_cost-le-64 scheme 0 (omega arith) in

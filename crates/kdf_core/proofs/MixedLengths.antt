@@ -40,7 +40,7 @@ iterate-keeps : {A : Type 0} (P : A → Type 0) (step : A → A) → ((x : A) �
 iterate-keeps P step keeps zero x holds = holds
 iterate-keeps P step keeps (suc n) x holds = iterate-keeps P step keeps n (step x) (keeps x holds)
 
--- `chunks_exact` cuts a list into as many pieces of the given size as the list has room for.
+-- `chunks_exact` cuts a list into as many pieces of the given size as fit into it.
 length-chunks_exact : (items : List ℕ) (size : ℕ) → length (chunks_exact items size) ≡ length items / size
 unfolding chunks_exact
 length-chunks_exact items size = length-map-range_with_len (λ i. take size (drop (size * i) items)) 0 (length items / size)

@@ -57,6 +57,7 @@ IsPower-pos rows k power = omega (arith, power.power, pow_pos k)
 pub parts_bytes-product : (params : ScryptParams) (r p : ℕ) → r ≡ params.r → p ≡ params.p → 128 * r * p ≡ parts_bytes params
 parts_bytes-product params r p r_is p_is = ap (λ n. 128 * n * p) r_is ∙ ap (λ n. 128 * params.r * n) p_is
 
+-- Since r * p is at most 2 ^ 22, all parts have at most 2 ^ 29 bytes.
 pub parts_bytes-le : (params : ScryptParams) → IsAccepted params → parts_bytes params ≤ 2 ^ 29
 parts_bytes-le params accepted = omega (arith, (IsBounded-from_IsAccepted params accepted).parts)
 
