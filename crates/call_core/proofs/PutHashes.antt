@@ -1,5 +1,5 @@
 -- The hash that a call made is the one that it writes to the caller's bytes, for the clauses `hashes` and `opens` of
--- `put_hash` and `put_new_hash`. The first step of a call makes a hash or a refusal (`MakesHash`), and the second step
+-- `put_hash` and `put_new_hash`. The first step of a call makes a hash or refuses (`MakesHash`), and the second step
 -- writes it (`IsPut`). The lemmas combine the two steps, case by case. A hash that fits is written whole, so what holds
 -- of the hash holds of the first `length` bytes of `out`.
 use Rattle.std.proofs.Common.{◌≡◌, ◌⊎◌, ◌<◌, ℕ, List, [], ◌∷◌, length, take, Result, Ok, Err, inl, inr, refl, subst, sym, arith}

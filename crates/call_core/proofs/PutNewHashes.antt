@@ -24,7 +24,7 @@ use Rattle.call_core.specs.Private.Hashes.{MakesHashAnew}
 
 -- ---- What the first step makes
 
--- Without three random numbers the first step makes a refusal.
+-- Without three random numbers the first step makes no hash.
 pub MakesHashAnew-no_numbers : (password : List ℕ) (number rounds : ℕ) (numbers : List ℕ) (budget room : ℕ) (scheme : Scheme) (admitted : Result ℕ Report)
     (made : Result (List ℕ × Report) Report) → IsPassword password → IsSchemeMade TakesNewRounds number rounds scheme
     → (length numbers == 3) ≡ false → admitted ≡ admission budget room password (salted scheme (0 ∷ 0 ∷ 0 ∷ []))

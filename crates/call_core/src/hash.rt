@@ -22,7 +22,7 @@ use crypt_core::password::Password;
 use crypt_core::setting::Setting;
 use prims_core::meter::Meter;
 
-/// Hashes the password with the setting in `text` and writes the hash to `out`. After a refusal it writes `*0` or `*1`
+/// Hashes the password with the setting in `text` and writes the hash to `out`. After an error it writes `*0` or `*1`
 /// instead, which is no hash ([`token`]).
 pub fn put_hash<M: Memory>(
     memory: &mut M,
@@ -46,7 +46,7 @@ pub fn put_hash<M: Memory>(
     put_hashed(hashed, token(text), out)
 }
 
-/// Writes the hash to `out`, or `lock` after a refusal, and returns the report.
+/// Writes the hash to `out`, or `lock` after an error, and returns the report.
 pub(crate) fn put_hashed(
     hashed: Result<(Hashed, Report), Report>,
     lock: &[u8],

@@ -23,7 +23,7 @@ use crypt_core::memory::Memory;
 use crypt_core::setting::Setting;
 use prims_core::meter::Meter;
 
-/// Hashes the password with a new setting and writes the hash to `out`. After a refusal it writes `*0` instead, which
+/// Hashes the password with a new setting and writes the hash to `out`. After an error it writes `*0` instead, which
 /// is no hash ([`token`]).
 ///
 /// `numbers` has the three random numbers that make the salt. With any other count of numbers the call still makes all
