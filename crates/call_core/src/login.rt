@@ -1,5 +1,5 @@
-//! A login, which checks a password against a stored hash. If it can't check the stored hash, it hashes the password as
-//! for a new hash instead, so that such an account is not answered faster than others.
+//! A login, which checks a password against a stored hash. If it can't check the stored hash, it makes a dummy hash
+//! instead: it hashes the password as for a new hash, so that the call does not return sooner.
 ghost use Rattle.std.specs.Prelude.{◌≡◌, ◌≤◌, ◌⊎◌, ◌≢◌, length};
 ghost use Rattle.prims_core.specs.Work.{no_work};
 ghost use Rattle.crypt_core.specs.Needs.{AreEnough};

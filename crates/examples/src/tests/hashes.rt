@@ -60,8 +60,8 @@ fn packed_digests(rt: HostRuntime) -> Result<(), Fail> {
     Ok(())
 }
 
-// The hashes come from openssl-passwd(1), Drepper's specification and RFC 7914's vectors. The counts of SHA-crypt's
-// work that depend on a digest come from a Python program.
+// The hashes come from openssl-passwd(1), Drepper's specification and RFC 7914's vectors, and the last one from
+// Python's `hashlib`. The counts of SHA-crypt's work that depend on a digest come from a Python program.
 #[test]
 fn hashes(rt: HostRuntime) -> Result<(), Fail> {
     for &(setting, password, wanted, work) in &[
