@@ -157,8 +157,8 @@ pub extern "C" fn mkpasswd_proved_login(
 ///
 /// Three random `numbers` make the salt. If `numbers` has any other length, the call hashes nothing and reports the
 /// first error in the list below that applies, which is `NoRandomNumbers` at the latest. So C's `mkpasswd_new` first
-/// makes this call without numbers. It draws three only after `NoRandomNumbers`, when nothing but a lack of memory can
-/// refuse the hash.
+/// makes this call without numbers. It draws three only after `NoRandomNumbers`, when only a lack of memory can make
+/// the next call fail.
 ///
 /// The method is 1 for md5crypt, 5 for sha256crypt, 6 for sha512crypt or 7 for scrypt, as in their hashes. The rounds
 /// are those of `mkpasswd -R`, except that 0 stands for the recommended ones. A budget of 0 is the limit of the policy,
@@ -215,8 +215,8 @@ pub extern "C" fn mkpasswd_proved_new_from(
 /// Returns 1 if a new hash with the method and the rounds would replace the stored one.
 ///
 /// A new hash would replace a stored one that has another method, fewer rounds, or for scrypt a smaller `N * r * p`.
-/// The report's `outdated` is the same 0 or 1, and the report's `error` is 0 in both cases. The call hashes and
-/// allocates nothing.
+/// The report's `outdated` is the same 0 or 1. If the arguments are valid, the report's `error` is 0 whichever it is.
+/// The call hashes and allocates nothing.
 ///
 /// # Errors
 ///
@@ -359,7 +359,7 @@ pub extern "C" fn mkpasswd_bound_bytes(
 /// Hashes a password with a setting, and writes the hash and a zero byte to `out`. With the same budget,
 /// [`mkpasswd_proved_verify`] accepts the hash for the password, unless scrypt could not allocate.
 ///
-/// After a refusal `out` holds the token `*0`, or `*1` if the setting begins with `*0`, cut to the capacity of `out`.
+/// After an error, `out` holds the token `*0`, or `*1` if the setting begins with `*0`, cut to the capacity of `out`.
 ///
 /// # Errors
 ///

@@ -1,5 +1,5 @@
 -- Shows that a hash digests at most as many bytes as its cost says, for the clause `metered` of `digest_of` in
--- src/hash.rt. `work_bytes-le-cost` goes scheme by scheme. For SHA-crypt, the cost takes 255 where the work takes the
+-- src/hash.rt. `work_by_bytes-le-cost_by` goes scheme by scheme. For SHA-crypt, the cost takes 255 where the work takes the
 -- first byte of the digest A, which is below 256. For the other schemes, the work and the cost have the same digested
 -- bytes.
 use Rattle.std.proofs.Common.{◌≤◌, ℕ, List, length, arith}

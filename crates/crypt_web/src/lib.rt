@@ -189,7 +189,8 @@ pub extern "C" fn web_login_need(
 /// for C.
 ///
 /// A new hash would replace a stored one that has another method, fewer rounds, or for scrypt a smaller `N * r * p`.
-/// The report's `outdated` is the same 0 or 1, and the report's `error` is 0 in both cases. The call hashes nothing.
+/// The report's `outdated` is the same 0 or 1. If the arguments are valid, the report's `error` is 0 whichever it is.
+/// The call hashes nothing.
 ///
 /// # Errors
 ///
@@ -212,7 +213,7 @@ pub extern "C" fn web_needs_rehash(
 /// Hashes a password with a setting, and writes the hash and a zero byte to `out`. With the same budget, [`web_verify`]
 /// accepts the hash for the password, unless too little memory is lent for scrypt.
 ///
-/// After a refusal `out` holds the token `*0`, or `*1` if the setting begins with `*0`, cut to the capacity of `out`.
+/// After an error, `out` holds the token `*0`, or `*1` if the setting begins with `*0`, cut to the capacity of `out`.
 ///
 /// # Errors
 ///
@@ -257,7 +258,7 @@ pub extern "C" fn web_need(password: &[u8], text: &[u8], budget: u64, need: &mut
 /// Makes a setting with a method, the rounds and three random numbers, and writes it and a zero byte to `out`.
 ///
 /// The method is 1 for md5crypt, 5 for sha256crypt, 6 for sha512crypt or 7 for scrypt, as in their hashes. The rounds
-/// are those of `mkpasswd -R`, except that 0 stands for the recommended ones. After a refusal `out` holds the token
+/// are those of `mkpasswd -R`, except that 0 stands for the recommended ones. After an error, `out` holds the token
 /// `*0`, cut to the capacity of `out`.
 ///
 /// # Errors
