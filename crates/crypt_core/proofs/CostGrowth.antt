@@ -44,8 +44,8 @@ digit_bytes-le-next_of_odd one other n half more low_is half_is rest =
     rw (digit_bytes-step one other (n + 1) (omega arith), low_next, half_next) refl in
     omega (arith, this, next, rest)
 
--- From a number of k digits to the next one, the pieces lose at most k times `one` bytes and once `other` bytes: the
--- carry turns the final digits 1 into 0.
+-- From a number of at most k digits to the next one, the pieces lose at most k times `one` bytes and once `other`
+-- bytes: the carry turns the 1s at the end into 0s, and the 0 before them into a 1.
 digit_bytes-le-next : (k one other n : ℕ) → n < 2 ^ k → digit_bytes one other n ≤ digit_bytes one other (n + 1) + (k * one + other)
 digit_bytes-le-next k one other zero below = omega (arith, digit_bytes-zero one other)
 digit_bytes-le-next zero one other (suc n) below = absurd (omega (arith, below))
