@@ -92,14 +92,15 @@ pub extern "C" fn mkpasswd_proved_verify(
     )
 }
 
-/// Checks the password of a login. Returns 1 exactly if a new hash can have the method and the rounds and
-/// [`mkpasswd_proved_verify`] returns 1 within the same limit, unless scrypt could not allocate. After a 1 the report's
-/// `outdated` says whether [`mkpasswd_needs_rehash_bytes`] would return 1; after a 0 `outdated` is 0.
+/// Checks the password of a login. Returns 1 exactly if a new hash can have the method and the rounds, the password
+/// matches the stored hash, and that hash costs at most the limit, unless scrypt could not allocate. With a budget of
+/// 0, a new hash of the password must be within the limit too. After a 1 the report's `outdated` says whether
+/// [`mkpasswd_needs_rehash_bytes`] would return 1; after a 0 `outdated` is 0.
 ///
-/// If the field has no valid setting, or one whose hash can cost more than the limit, the call hashes the password with
-/// the method, the rounds and a fixed salt, drops the hash, and returns 0. So a login with such a field takes the work
-/// of a new hash. For an unknown name, pass an empty field. Whatever the field is, the call makes at most one hash, and
-/// digests and mixes no more bytes than the limit.
+/// If the field has no valid setting, or one whose hash can cost more than the limit, the call returns 0, but first
+/// hashes the password with the method, the rounds and a fixed salt, if the limit allows it, and drops the hash. So a
+/// login with such a field takes the work of a new hash. For an unknown name, pass an empty field. Whatever the field
+/// is, the call makes at most one hash, and digests and mixes no more bytes than the limit.
 ///
 /// The limit is the budget, except that a budget of 0 stands for the limit of the policy: twice the cost of a new hash
 /// with the method and the rounds for a password of 64 bytes, and at least 150000000. The policy's limit admits a new
@@ -241,8 +242,8 @@ pub extern "C" fn mkpasswd_needs_rehash_bytes(
 ///
 /// Rounds of 0 are the recommended ones: 656000 for SHA-crypt, and 7 for scrypt. A budget of 0 is the greatest cost of
 /// a hash with the method and the rounds, and at least that of sha512crypt with 656000 rounds. With a budget of 0, a
-/// hash is also over budget if a login with the method, the rounds and the limit of the policy would refuse even the
-/// empty password.
+/// hash is also over budget if with its setting even the empty password costs more than the limit of the policy: then
+/// no login with the method, the rounds and a budget of 0 checks any password against it.
 ///
 /// For a valid hash the report has the scheme, its rounds, or scrypt's N, r and p, and the greatest cost of a hash with
 /// its setting, for a password of 1,024 bytes. After `UnknownScheme` the report has the number of the scheme of

@@ -151,8 +151,8 @@ impl Scheme {
         }
     }
 
-    /// Returns the method of the scheme. The contract also states that the rounds, or scrypt's parameters, are in
-    /// range.
+    /// Returns the method of the scheme. The contract also states that SHA-crypt's rounds are in range, and that
+    /// scrypt's parameters are accepted.
     pub fn method(&self) -> Method
         ensures method { result ≡ method_of self.now }
         ensures in_range { IsScheme self.now }
