@@ -22,10 +22,10 @@ pub const MIN_ROUNDS: u64 = 1000;
 /// The rounds of SHA-crypt if the setting has no `rounds=` field (Drepper's specification).
 pub const DEFAULT_ROUNDS: u32 = 5000;
 
-/// The fewest rounds from which [`Scheme::made`] makes a scheme of scrypt, apart from 0 (crypt(5)).
+/// The fewest rounds from which [`Scheme::made`] makes a scheme of scrypt, apart from 0. The range is that of crypt(5).
 const MIN_SCRYPT_ROUNDS: u32 = 6;
 
-/// The most rounds from which [`Scheme::made`] makes a scheme of scrypt (crypt(5)).
+/// The most rounds from which [`Scheme::made`] makes a scheme of scrypt. The range is that of crypt(5).
 const MAX_SCRYPT_ROUNDS: u32 = 11;
 
 /// The rounds of scrypt that 0 stands for in [`Scheme::made`].
