@@ -35,7 +35,7 @@ use Rattle.mkpasswd.specs.Private.Options.{HasPassed, parser_by_id}
 abbrev pub all_free : List Rule → Bool
 all_free = list_all (λ rule. rule.is_free)
 
--- If every rule is free, so is every argument: it neither excludes other arguments nor conflicts with them.
+-- If every rule is free (`is_free`), so is every argument: it neither excludes other arguments nor conflicts with them.
 is_free_arg-all_free : (xs : List Arg) → all_free (map rule_of xs) ≡ true → All (λ a. is_free_arg a ≡ true) xs
 is_free_arg-all_free [] e k d lt = absurd (omega arith)
 is_free_arg-all_free (x ∷ xs) e zero d lt = (and_parts _ _ e).0
@@ -55,8 +55,8 @@ IsPlain-all_free c ready leaves free =
 
 -- ---- A value of an argument
 
--- IsOnly c k id q: argument k of the command has this id and the parser `q`. No other argument has its id, and `clap`
--- adds none with it when it builds the command.
+-- IsOnly c k id q: argument k of the command has this id, which is not empty, and the parser `q`. No other argument has
+-- its id, and `clap` adds none with it when it builds the command.
 record IsOnly (c : Command) (k : ℕ) (id : Text) (q : ValueParser) : Type 0 where
   within : k < length (args_of c)
   called : (d : Arg) → (slice_index_or (args_of c) k d).id.now ≡ id
@@ -112,7 +112,8 @@ HasPassed_from_EntryPasses c m p k id q is no_groups e key pass text read =
       subst (λ (w : ValueParser). Accepts any.1.ignore_case w first.0.now) (own_parser any.0 any.1 any.2 any.3 any.4.0) any.4.1,
     )
 
--- IsOnlyRule rules k r q: rule k is `r`, which has the parser `q`. No other rule has its id.
+-- IsOnlyRule rules k r q: rule k is `r`, which has the parser `q`. No other rule has its id, which is not empty and
+-- neither `help` nor `version`.
 pub record IsOnlyRule (rules : List Rule) (k : ℕ) (r : Rule) (q : ValueParser) : Type 0 where
   pub within : k < length rules
   pub place : (z : Rule) → slice_index_or rules k z ≡ r

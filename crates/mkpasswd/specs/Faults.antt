@@ -14,7 +14,8 @@ use Rattle.mkpasswd.specs.declared.fault.Fault.{Fault}
 use Rattle.mkpasswd.specs.declared.fault.Fault.TheVariants.{Start, Usage, Run}
 use Rattle.mkpasswd.specs.declared.fault.UsageFault.TheVariants.{Parse, Method, TwoSalts, TwoModes, Make, OutOfMemory}
 
--- parse_status kind: the exit status of `clap`'s error: 0 if the arguments ask for help or the version, otherwise 2.
+-- parse_status kind: the exit status of an error of `clap` with this kind. It is 0 if the arguments ask for help or the
+-- version, and otherwise 2.
 abbrev pub parse_status : ErrorKind → ℕ
 parse_status DisplayHelp = 0
 parse_status DisplayVersion = 0

@@ -30,7 +30,7 @@ const FAULT_LINE_ROOM: usize = 80;
 /// Runs the command with the arguments after the program's name, and returns the exit status.
 ///
 /// - 0: everything was done, or help or the version was printed.
-/// - 1: a line was refused or got the answer `no`, or an audited account needs care.
+/// - 1: a line was refused or got the verdict `no`, or an audited account needs care.
 /// - 2: the arguments or the password are invalid.
 /// - 3: a system error occurred, an allocation failed, or the run needs too many I/O calls.
 ///
@@ -207,7 +207,8 @@ fn text_of(alloc: Global, error: &clap::Error) -> Result<String, AllocError> {
 /// The function makes at most as many writes as the line has bytes. If a call fails, only the status reports the error.
 /// For `Parse` MESSAGE is empty, because `clap` has the message.
 ///
-/// Precondition: the counts of `faults` are at most those that a run can leave.
+/// Precondition: each count of `faults` is at most 2^63, or 2^63 + 2^40 for its calls. Each run leaves its `faults`
+/// within these limits.
 pub fn report_fault<E: Write>(fault: &Fault, faults: &mut Output<E>) -> u8
     requires room { HasRoomWithinRun faults.old }
     ensures told { IsTold fault.now faults.old faults.new }

@@ -2,8 +2,8 @@
 -- the loop is `IsRunning`: each line that the reader has returned is answered, the outputs have taken these answers and
 -- nothing else, and no count can overflow in the rest of the run. `IsRunning-start` shows that it holds at first, and
 -- `IsRunning-answered` that it still holds when one more answer is written. For each exit of the loop, a lemma shows
--- `RunsLines`: reading stopped, scrypt could not allocate memory, an answer was cut short, or all lines are answered
--- and the outputs are flushed or not.
+-- `RunsLines`: reading stopped, scrypt could not allocate memory, an answer was written only in part, or all lines are
+-- answered and both outputs were flushed, or a flush failed.
 use Rattle.std.proofs.Common.{◌≡◌, ℕ, ◌+◌, ◌*◌, ◌^◌, ◌≤◌, ◌<◌, ◌⊎◌, Bool, true, false, MatchBool, List, [], ◌∷◌, ◌++◌, length, Result, Ok, Err, refl, sym, ap, subst, ◌∙◌, add-zero, append-nil, arith, inl, inr}
 use Rattle.std.specs.Io.KnownBytes.{IsAtEnd}
 use Rattle.std.proofs.Math.Nat.{mul-le-mul_left}
@@ -37,9 +37,9 @@ use Rattle.run_core.proofs.LineReading.{HasGiven-nil}
 use Rattle.run_core.proofs.MovedBytes.{MovesBytes-none, MovesBytes-trans}
 use Rattle.run_core.proofs.SentTexts.{Takes-trans, TakesFront-after, Takes-nil}
 
--- ---- room for counts
+-- ---- counts that cannot overflow
 
--- If the counts have room for some I/O calls, they have room for fewer.
+-- If `HasRoomFor` holds for some number of I/O calls, it holds for any smaller number.
 pub HasRoomFor-fewer : {T : Type 0} (size left fewer : ℕ) (device : Device T) → fewer ≤ left → HasRoomFor size left device → HasRoomFor size fewer device
 HasRoomFor-fewer size left fewer device less room = record {
   failures = room.failures;

@@ -1,4 +1,5 @@
--- Which rules the code passes to `clap`, which values `clap` accepts, and what the code's checks of the arguments say.
+-- Which rules the code passes to `clap`, which values `clap` accepts, and what the code's own checks of the arguments
+-- return.
 use Rattle.std.specs.Prelude.{◌≡◌, ℕ, pos, nat_lt, Bool, true, false, if◌then◌else◌, List, [], ◌∷◌, Option, Some, None, Result, Ok, Err}
 use Rattle.std.specs.Option.{option_map_or}
 use Rattle.std.specs.Str.{bytes_eq}
