@@ -158,7 +158,8 @@ fn show_refusal<O: Write, E: Write>(
     }
 }
 
-// Writes the message of `clap`'s error to the output that `clap` intends for it, and returns the exit status.
+// Writes the message of `clap`'s error to the output that `clap` intends for it, and returns the exit status. If a
+// message about wrong arguments cannot be written, only the status reports the error.
 fn show_error<O: Write, E: Write>(
     alloc: Global,
     error: &clap::Error,
@@ -192,7 +193,9 @@ fn text_of(alloc: Global, error: &clap::Error) -> Result<String, AllocError> {
     let text = format!(in alloc; "{error}")?;
     match text.as_str().split_once("\n  tip: to pass ") {
         Some((front, tip)) => {
+            // `clap` puts an empty line before the first tip, and none before the others.
             let front = front.strip_suffix("\n").unwrap_or(front);
+            // The last `Usage: ` is `clap`'s own, even if the user's argument, which the tip quotes, contains one.
             let usage = tip
                 .rsplit_once("\n\nUsage: ")
                 .map_or("", |(_, usage)| usage);

@@ -206,8 +206,8 @@ module _ {I O E : Type 0} where
 -- In this module, the run has called `next_line`, after which the input is `input`, and `mid` I/O calls are left.
 module _ {I O E : Type 0} {turns : ℕ} {kind : Kind} {job : Job} {start old : RunState I O E} {reader : LineReader} {tally : Tally} {left : ℕ}
     (running : IsRunning turns kind job start old reader tally left) (input : Device I) (mid : ℕ) (read_calls : input.calls + mid ≡ old.input.calls + left) where
-  -- The run is within its limits if the outputs made no more I/O calls after the read than were left, and at most one
-  -- call of the whole run failed.
+  -- The run is within its limits if at most one of all its calls failed, all others but one read moved a byte, and the
+  -- outputs made no more I/O calls after `next_line` than were left.
   IsWithinTurns-after_read : (new_left : ℕ) (new : RunState I O E) → MovesBytes 1 start.input new.input → MovesBytes 0 old.out new.out → MovesBytes 0 old.faults new.faults
       → failures_of new ≤ failures_of start + 1 → new.input.calls ≡ input.calls
       → new.out.calls + new.faults.calls + new_left ≡ old.out.calls + old.faults.calls + mid → IsWithinTurns turns start new

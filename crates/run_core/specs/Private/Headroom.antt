@@ -51,7 +51,8 @@ pub record HasRoomFor {T : Type 0} (size left : ℕ) (device : Device T) : Type 
   pub calls : device.calls + left ≤ 2 ^ 63
   pub bytes : device.bytes + size * (left + 1) ≤ 2 ^ 63
 
--- HasCountsForLine counts: no count can overflow while the hashes of one more line are computed.
+-- HasCountsForLine counts: no count can overflow while the hashes of one more line are computed. Each hash needs counts
+-- of at most 2^120 (`HasRoom`), and a run over lines keeps them below 2^110 (`HasRoomForLines`).
 abbrev pub HasCountsForLine : Work → Type 0
 HasCountsForLine counts = IsAtMost counts (2 ^ 110)
 
