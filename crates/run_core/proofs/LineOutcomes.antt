@@ -2,8 +2,8 @@
 -- that hash speak of a password and of a field as it was read (`Settles`). The public clauses speak of the line
 -- (`IsAnswer`), its cost (`IsCostly`) and its outcome (`ComesTo`), and `Concludes_from_Settles` leads to them. The main
 -- step: a line has only one list of parts, and a field spells at most one setting, so the cost that was compared with
--- the budget is the line's only cost. `would_check` gives the outcome that a check would have had if scrypt could not
--- allocate memory, for the clause `settles` of `check_within_budget`.
+-- the budget is the line's only cost. For the clause `settles` of `check_within_budget` where scrypt could not allocate
+-- memory, `would_check` gives the outcome that the check would otherwise have had.
 use Rattle.std.proofs.Common.{◌≡◌, ℕ, Bool, true, false, List, [], ◌∷◌, ◌++◌, codes, slice_index, length, Option, Some, None, inl, inr, refl, sym, ap, subst, ◌∙◌, true≢false, arith}
 use Rattle.std.specs.Prelude.{◌≢◌, Result, Ok, Err}
 use Rattle.std.specs.Bool.{Decides}

@@ -1,4 +1,5 @@
--- What the functions that find the outcome of a line return, and the texts from which its answer is rendered.
+-- What the functions that find the outcome of a line return, the texts from which its answer is rendered, and its count
+-- in the tally.
 use Rattle.std.specs.Prelude.{◌≡◌, ◌≢◌, Bool, ℕ, ◌+◌, ◌<◌, true, false, List, [], ◌∷◌, ◌++◌, decimal, length, if◌then◌else◌, Option, Some, None, Result, Ok, Err}
 use Rattle.rand_core.specs.Stream.{Stream}
 use Rattle.prims_core.specs.Work.{no_work}
