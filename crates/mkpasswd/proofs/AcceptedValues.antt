@@ -32,10 +32,11 @@ use Rattle.mkpasswd.specs.Private.Options.{HasPassed, parser_by_id}
 
 -- ---- A command whose arguments have no rules about one another
 
+-- all_free rules: whether every rule is free (`is_free`).
 abbrev pub all_free : List Rule → Bool
 all_free = list_all (λ rule. rule.is_free)
 
--- If every rule is free (`is_free`), so is every argument: it neither excludes other arguments nor conflicts with them.
+-- If every rule is free, so is every argument: it neither excludes other arguments nor conflicts with them.
 is_free_arg-all_free : (xs : List Arg) → all_free (map rule_of xs) ≡ true → All (λ a. is_free_arg a ≡ true) xs
 is_free_arg-all_free [] e k d lt = absurd (omega arith)
 is_free_arg-all_free (x ∷ xs) e zero d lt = (and_parts _ _ e).0
@@ -140,11 +141,11 @@ IsOnly_from_IsOnlyRule c k r q rule =
 
 -- ---- The rule with an id, if no two rules have the same id
 
--- No rule has this id.
+-- lacks_id id rules: whether no rule has this id.
 abbrev lacks_id : Text → List Rule → Bool
 lacks_id id = list_all (λ rule. not (bytes_eq rule.id id))
 
--- No two rules have the same id, and no id is empty, `help` or `version`.
+-- have_own_ids rules: whether no two rules have the same id, and no id is empty, `help` or `version`.
 abbrev pub have_own_ids : List Rule → Bool
 have_own_ids [] = true
 have_own_ids (rule ∷ rules) =
@@ -159,7 +160,7 @@ lacks_id-each id [] all j z lt same = absurd (omega arith)
 lacks_id-each id (rule ∷ rules) all zero z lt same = true≢false (sym same ∙ not-true (bytes_eq rule.id id) (and_parts _ _ all).0)
 lacks_id-each id (rule ∷ rules) all (suc j) z lt same = lacks_id-each id rules (and_parts _ _ all).1 j z (omega arith) same
 
--- Exactly one of the rules has this id, and its parser is `q`.
+-- HaveOne rules id q: exactly one of the rules has this id, and its parser is `q`.
 abbrev HaveOne : List Rule → Text → ValueParser → Type 0
 HaveOne rules id q = (k : ℕ) × (r : Rule) × (r.id ≡ id) × IsOnlyRule rules k r q
 

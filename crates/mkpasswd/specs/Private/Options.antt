@@ -12,7 +12,7 @@ use Rattle.clap.specs.declared.parser.matches.ArgMatches.{ArgMatches}
 use Rattle.mkpasswd.specs.Options.{BreaksUsage, command_rules}
 use Rattle.mkpasswd.specs.declared.fault.UsageFault.{UsageFault}
 
--- HasRule arg rule: the argument `arg`, as the code builds it for `clap`, has this rule. It belongs to the command
+-- HasRule arg rule: the argument `arg`, as the code builds it for `clap`, has this rule, and belongs to the command
 -- alone, not to subcommands.
 abbrev pub HasRule : Arg → Rule → Type 0
 HasRule arg rule = (rule_of arg ≡ rule) × (arg.global ≡ false)
