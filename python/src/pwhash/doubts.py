@@ -80,6 +80,7 @@ def find_marks(data: bytes, password: bytes, windows: bool) -> Iterator[str]:
         yield "an empty password: Return alone logs in"
     if password.endswith(b"\r") and not windows:
         yield "a carriage return ends the password; --windows leaves it out"
+    # Without --windows the last character was reported above.
     if b"\r" in (data if windows else data[:-1]):
         yield "a carriage return inside"
     if data.startswith(BYTE_ORDER_MARK):

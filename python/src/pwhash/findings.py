@@ -7,6 +7,7 @@ from typing import Dict, NamedTuple, Optional, Union
 
 import mkpasswd
 
+# Colours of text in a terminal, as in the sequence ESC [ 31 m.
 RED, YELLOW, CYAN, GREEN, PLAIN = 31, 33, 36, 32, 0
 
 # Schemes that mkpasswd can't judge, but that are no problem.

@@ -66,7 +66,7 @@ class Target:
         return [name for name in self.lines if name not in kept]
 
     def refuse_entrances(self, hashes: Iterable[Hash]) -> None:
-        """Refuses HASHES that let in names which TARGET may keep out, though without a mark."""
+        """Refuses HASHES if it lets in names that TARGET may keep out, though without a mark."""
         let_in = [line.name for line in hashes if not line.field.is_locked]
         doubtful = [name for name in let_in if self._may_keep_out(name)]
         if doubtful:
