@@ -94,7 +94,7 @@ class MkpasswdPasswordHasher(BasePasswordHasher):
             raise InvalidPassword(str(error)) from None
 
     def verify(self, password: str, encoded: str) -> bool:
-        """Return whether it matches. If it can't be checked, this takes as long as a new hash."""
+        """Return whether it matches. A hash that can't be checked takes as long as a new one."""
         field = self._field(encoded)
         try:
             policy = self._policy_for(password)

@@ -30,7 +30,8 @@ OF_OTHER_SCHEMES = re.compile(
     rb"(?i)\{(?:S?MD5|S?SHA(?:256|384|512)?|BLF-CRYPT|ARGON2(?:I|ID)?|PBKDF2(?:-SHA(?:256|512))?"
     rb"|SCRAM-SHA-(?:1|256))\}"
 )
-# The prefixes of digests in Base64, most of them with a salt behind the digest, and their bytes.
+# The prefixes of digests in Base64, most of them with a salt behind the digest, and how many bytes
+# each digest has.
 OF_DIGESTS = re.compile(rb"(?i)\{(S?)(MD5|SHA|SHA256|SHA384|SHA512)\}")
 DIGEST_BYTES = {b"MD5": 16, b"SHA": 20, b"SHA256": 32, b"SHA384": 48, b"SHA512": 64}
 BASE64 = re.compile(rb"([A-Za-z0-9+/]*)={0,2}")

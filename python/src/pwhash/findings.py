@@ -15,7 +15,7 @@ FINE_SCHEMES = frozenset(["yescrypt", "gost-yescrypt", "bcrypt"])
 
 
 class Finding(enum.Enum):
-    """The findings, worst first: the word, its colour, and what to do."""
+    """The findings, worst first. Each has a word, the word's colour, and what to do."""
 
     NO_PASSWORD = (
         "no password",

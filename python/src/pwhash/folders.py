@@ -139,7 +139,7 @@ def refuse_untrusted_link(folder: int, name: str, status: os.stat_result, rule: 
 
 
 def refuse_untrusted(folder: int, rule: Rule) -> None:
-    """Refuses a folder in which others can exchange a file, or which they can exchange itself."""
+    """Refuses a folder if others can exchange a file in it, or the folder itself."""
     with errors_named(f"{rule.file_name}, a folder above it"):
         for number, each in enumerate(folders_upwards(folder)):
             refuse_untrusted_folder(each, rule, is_own=number == 0)

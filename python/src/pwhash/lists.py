@@ -99,7 +99,7 @@ def refuse_folder(path: str) -> None:
 
 
 def open_own_folder(target: FileInFolder) -> int:
-    """Opens the folder of several lists. Refuses one that no run of this user has created."""
+    """Opens the folder of several lists. Refuses one that can't be from a run of this user."""
     with errors_named(target.display_name):
         status = target.status()
         if status is None or not is_own_folder(status):

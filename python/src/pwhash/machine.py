@@ -18,7 +18,7 @@ def processors() -> int:
 
 
 def free_memory() -> int:
-    """Returns how many bytes can be allocated without swapping, within its control groups."""
+    """Returns how many bytes this process can allocate without swapping, by its control groups."""
     available = re.search(r"(?m)^MemAvailable: +([0-9]+) kB$", read_file("/proc/meminfo"))
     free = [free_in_group(folder) for folder in group_folders("memory")]
     known = [amount for amount in free if amount is not None]

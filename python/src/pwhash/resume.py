@@ -33,7 +33,7 @@ class Parts(NamedTuple):
 
 
 def skip_hashed(part: Part, groups: LineGroups, policy: Policy, source_name: str) -> LineGroups:
-    """Returns the lines without a hash in the part. Cuts an incomplete line off its end."""
+    """Returns the lines without a hash in the part. Cuts an incomplete line off the part."""
     lines = itertools.chain.from_iterable(groups)
     with errors_named(part.name):
         count, size = whole_lines(part.fd)

@@ -48,7 +48,7 @@ def state_file(part: FileInFolder) -> FileInFolder:
 
 
 def current_state(options: FileOptions, source: Source, lists: bytes = b"") -> ResumeState:
-    """Returns what this run saves. The ctime isn't, since chmod and a new link change it too."""
+    """Returns what this run saves: not the ctime, which chmod and a new link change too."""
     status = source.initial_status
     file = f"{status.st_size} bytes, time {status.st_mtime_ns}, inode {status.st_ino}"
     return ResumeState(file.encode(), lists, choice_options(options), line_options(options))

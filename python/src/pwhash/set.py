@@ -58,7 +58,7 @@ def refuse_unfit(place: Place) -> None:
 
 
 def hash_of_password(options: SetOptions, session: Session) -> bytes:
-    """Returns the hash of a new password, which it makes or asks for."""
+    """Generates a new password or asks for it, and returns its hash."""
     policy = options.policy
     if options.generate:
         password = generated(policy, session.console)

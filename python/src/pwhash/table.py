@@ -17,7 +17,7 @@ from pwhash.source import Source
 LONGEST_ROW = 1 << 17  # bytes of a row or a field; csv accepts no longer fields
 SEPARATORS = {",": "a comma", ";": "a semicolon", "\t": "a tab"}
 NAME_IN_LISTS = "name"  # the heading of user names in a list of new passwords
-NUMBERS = [str(number) for number in range(1, 100)]  # that can be given instead of names
+NUMBERS = [str(number) for number in range(1, 100)]  # that options take in place of names
 # Maps each byte to the character of that number and back, so that the encoding doesn't matter.
 BYTES = "latin-1"
 IN_QUOTES = re.compile('"[^"]*"')
@@ -330,7 +330,7 @@ def is_row_and_heading(fields: Row, own: Row) -> bool:
 def is_joined_with_heading(fields: Row, columns: Columns) -> bool:
     """Whether a row ends in the heading of another table, as in ann,pw1name,password.
 
-    `cat` joins tables so if the last line of the first one has no line feed.
+    `cat` joins tables like this if the last line of the first one has no line feed.
     """
     own = columns.headings
     if len(fields) > 1 and fields[1:] == own[1:] and fields[0].endswith(own[0]):

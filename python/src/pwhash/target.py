@@ -51,7 +51,7 @@ class Target:
         return b"" if old is None else old.rest
 
     def refuse_removals(self, hashes: Iterable[Hash]) -> None:
-        """Refuses HASHES that lacks names of TARGET, which couldn't log in any more."""
+        """Refuses HASHES if it lacks names of TARGET, which could then no longer log in."""
         removed = self.removed(hashes)
         if removed:
             raise ProblemsFound(

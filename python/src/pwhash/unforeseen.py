@@ -17,7 +17,7 @@ FAILED = 3
 
 
 def watch() -> None:
-    """From here on, such an exception in any thread ends the process with a sentence.
+    """From here on, an exception that nothing handles ends the process with a sentence.
 
     Only one that Python can't raise, as in a __del__, is just reported.
     """
