@@ -1,9 +1,9 @@
 // The calls of the WebAssembly module. tools/web puts this file into each script that makes them:
 // mkpasswd.mjs, its workers and the page's worker.
 //
-// This file copies bytes into the module, reads its reports and gives scrypt its memory. Only the
-// module knows which rounds a method has, what a policy allows, what scheme a field is of, and how
-// much memory a hash needs.
+// This file copies bytes into the module, reads its reports and gives scrypt its memory. It doesn't
+// know which rounds a method has, what a policy allows, what scheme a field is of, or how much
+// memory a hash needs: it asks the module.
 
 const METHODS = { __proto__: null, md5crypt: 1, sha256crypt: 5, sha512crypt: 6, scrypt: 7 };
 // Stands for an unknown method, and for rounds that aren't a 32-bit integer: the module refuses it.
@@ -184,6 +184,7 @@ class Instance {
     get lent() {
         const { words, bytes } = this.#lent;
         const isLending = sizeOf(this.#lent) > 0;
+        // If nothing is lent, the counts are 0, and any aligned address in the memory does.
         const start = isLending ? this.#initial.length : this.#report;
         const end = start + WORD_SIZE * words;
         return [BigInt(start), BigInt(words), BigInt(end), BigInt(bytes)];

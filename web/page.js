@@ -257,6 +257,7 @@ function extractHash() {
 function describeFlaw(stored) {
     const [, prefix, ...parts] = stored.split('$');
     const hasRounds = prefix !== '1' && parts[0].startsWith('rounds=');
+    // The digest comes after the salt, or in scrypt's hashes after the cost with the salt.
     const digest = parts.slice(hasRounds ? 2 : 1).join('$');
     const whole = DIGEST_LENGTHS[prefix];
     if (digest.length < whole) return `cut: ${digest.length} of ${whole} characters`;

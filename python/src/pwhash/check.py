@@ -232,6 +232,8 @@ class Checking:
         if refusal in PASSWORD_REFUSALS:
             return f"line {line.number} isn't tried: {refusal.message}"
         fields = fields_to_check(line.data)
+        # A password longer than this costs too much with a hash as costly as a new one, but may be
+        # within the budget for names with cheaper hashes.
         longest = self._options.policy.longest or 0
         if refusal == OVER_BUDGET and fields is not None and len(fields.password) > longest:
             return f"line {line.number} isn't tried for every name: {refusal.message}"
