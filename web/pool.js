@@ -41,7 +41,8 @@ class Pool {
     ask(name, args, memory) {
         return new Promise((resolve, reject) => {
             const message = { name, args };
-            // `usedByOthers` is how much memory other calls used when this one last began.
+            // `usedByOthers` is the most memory that other calls used when this one found too
+            // little, or Infinity if it hasn't run yet.
             this.#waiting.push({ message, memory, usedByOthers: Infinity, resolve, reject });
             this.#distribute();
         });

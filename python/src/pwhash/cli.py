@@ -747,7 +747,7 @@ def refuse_lists(parser: Parser, parsed: argparse.Namespace) -> None:
 
 
 def describe_existing_list(parsed: argparse.Namespace) -> str:
-    """Describes a LIST that already exists. Beside OUT.part, an earlier run may have made it."""
+    """Describes a LIST that already exists. If OUT.part does too, both may be an earlier run's."""
     name, part = display_name(parsed.passwords), part_of(parsed.out)
     if os.path.lexists(part):
         return (

@@ -162,7 +162,8 @@ class Table:
         wanted = [known.index(each) for each in self._wanted]
         name = wanted[0]
         second = wanted[1] if len(wanted) > 1 else None
-        # If columns are numbered, the second field may be a password such as "name".
+        # If columns are numbered, the second field may be a password such as "name", so it isn't
+        # judged.
         above = self._wanted if self._has_names() else [cell(names, name), ""]
         if self._names_only:
             self._refuse_passwords([*above, *self._others])
