@@ -306,6 +306,7 @@ function sentenceOfCheck({ isDead, isMatch, isOutdated, time }) {
 // Corrects later estimates by the time that the last hash took.
 function correctRate({ error, time }) {
     const whole = expectedTime(running);
+    // A hash of at most 100 ms is too short for a browser's clock.
     if (error || !whole || time <= 100) return;
     rates[running.method].time *= time / whole;
     showEstimate();

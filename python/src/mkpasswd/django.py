@@ -34,7 +34,7 @@ _METHODS = {"1": "md5crypt", "5": "sha256crypt", "6": "sha512crypt", "7": "scryp
 _LEAST_ROUNDS = 1000  # of SHA-crypt
 
 # The method's number, the rounds, the salt and the digest of a whole hash. In a hash of scrypt,
-# eleven characters of cost come before the salt.
+# eleven characters of cost come before the salt, and the group for the rounds is empty.
 _FORMS = (
     re.compile(r"\$([156])\$(?:rounds=([0-9]+)\$)?([^$]*)\$([^$]+)\Z"),
     re.compile(r"\$(7)\$.{11}()(.*)\$([^$]+)\Z"),

@@ -739,8 +739,8 @@ def refuse_lists(parser: Parser, parsed: argparse.Namespace) -> None:
         )
     if parsed.passwords == STDIN:
         raise parser.usage_error("--passwords - would write a file: name another, or ./-")
-    of_out = [parsed.out, part_of(parsed.out), part_of(parsed.out) + ".options"]
-    if os.path.realpath(parsed.passwords) in [os.path.realpath(each) for each in of_out]:
+    files_of_out = [parsed.out, part_of(parsed.out), part_of(parsed.out) + ".options"]
+    if os.path.realpath(parsed.passwords) in [os.path.realpath(each) for each in files_of_out]:
         raise parser.usage_error("-o and --passwords need two different files")
     if os.path.lexists(parsed.passwords) and not parsed.resume:
         raise parser.usage_error(describe_existing_list(parsed))
