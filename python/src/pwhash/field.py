@@ -20,7 +20,7 @@ PREFIXES = {
     "sha256crypt": b"{SHA256-CRYPT}",
     "md5crypt": b"{MD5-CRYPT}",
 }
-# Any of them at the beginning of a field, in capital or small letters.
+# Any of these prefixes at the beginning of a field, in capital or small letters.
 FOR_CRYPT = re.compile(
     rb"(?i)\A(?:" + b"|".join(map(re.escape, (ANY_METHOD, *PREFIXES.values()))) + rb")"
 )
@@ -58,7 +58,7 @@ HASHES = (
     mkpasswd.State.OVER_BUDGET,
     mkpasswd.State.UNKNOWN,
 )
-# Those of damaged hashes, which services treat as hashes.
+# The states of damaged hashes, which services treat as hashes.
 DAMAGED = (mkpasswd.State.DEAD, mkpasswd.State.MALFORMED)
 
 

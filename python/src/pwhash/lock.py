@@ -84,7 +84,7 @@ def open_lock(place: Place, owner: Owner) -> int:
     except FileExistsError:  # another process has just created it
         return os.open(place.lock, FLAGS, dir_fd=place.folder)
     # A service of that user can then take the lock even if the superuser was the first to change
-    # the file. Only the superuser can do this, and nobody else needs to.
+    # the password file. Only the superuser can give the lock away, and nobody else needs to.
     with contextlib.suppress(OSError):
         os.fchown(lock, owner.user, owner.group)
     return lock

@@ -31,7 +31,7 @@ class Look:
         self._doubts = Doubts(options.service, is_table, options.input.windows)
         self._counts: Counter[str] = Counter()
         self._hidden = 0  # problems that aren't shown
-        self._has_lines = False  # after --skip-locked and --skip-unknown
+        self._has_lines = False  # whether --skip-locked and --skip-unknown leave any
         self._refused: Set[int] = set()
         self._doubtful: Set[int] = set()
 

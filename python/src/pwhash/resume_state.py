@@ -33,7 +33,7 @@ class ResumeState(NamedTuple):
     """What OUT.part.options says."""
 
     file: bytes  # FILE's size, time and inode
-    lists: bytes  # those of each list of passwords that the run has written
+    lists: bytes  # the size, time and inode of each list of passwords that the run has written
     choice: bytes  # the options that decide which lines are left out
     options: bytes  # the options that change a line before it is hashed
 
