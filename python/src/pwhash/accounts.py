@@ -29,7 +29,7 @@ class Accounts:
         self.odd = 0  # how many lines aren't UTF-8, or have a zero byte
 
     def _read(self) -> Dict[bytes, bytes]:
-        """Returns the field of each name, in its first line. Reports its further lines."""
+        """Returns the field in the first line of each name. Reports further lines of the name."""
         first_lines: Dict[bytes, Stored] = {}
         for stored in stored_in(self._path, self._console):
             first = first_lines.setdefault(stored.name, stored)

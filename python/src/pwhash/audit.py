@@ -75,6 +75,7 @@ def judge(line: Line, policy: mkpasswd.Policy, judges_locked: bool) -> Judgement
     if not colon:
         return findings.judge_refused_line(line.number, NO_PASSWORD.message)
     stored, colon, further = rest.partition(b":")
+    # In a line hash:name or password:name, what is in the place of the name isn't shown.
     is_of_account = bool(colon) and has_number_first(further)
     is_swapped = could_be_name(stored) and not is_of_account
     shown = shown_name(b"" if is_swapped else name, line.number)

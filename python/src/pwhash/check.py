@@ -71,7 +71,9 @@ class Checking:
         self._console = session.console
         self._accounts = Accounts(options.shadow, session.console) if options.shadow else None
         self._memory = Memory()
-        self._new_table = library.memory_of_new_hash(options.policy) if options.rehash else 0
+        self._bytes_for_new_hash = (
+            library.memory_of_new_hash(options.policy) if options.rehash else 0
+        )
         self._first_fields = FirstFields()
         self._with_another_field: List[int] = []  # numbers of lines
         self._printed: Set[str] = set()
@@ -195,17 +197,17 @@ class Checking:
             return verdict
         if verdict is not Verdict.MATCH or not is_outdated:
             return CheckResult(verdict)
-        with self._memory.reserved(self._new_table):
+        with self._memory.reserved(self._bytes_for_new_hash):
             new_hash = library.new_hash(policy, fields.password)
         return new_hash if isinstance(new_hash, Refusal) else CheckResult(verdict, new_hash)
 
     def _verdict(self, fields: FieldsToCheck) -> Union[Verdict, Refusal]:
         """Checks a password, once there is memory for that."""
         budget = self._options.policy.budget
-        table = library.memory(fields.stored)
-        if table > budget:  # the library refuses this, and takes no memory
-            table = 0
-        with self._memory.reserved(table):
+        needed = library.memory(fields.stored)
+        if needed > budget:  # the library refuses this, and takes no memory
+            needed = 0
+        with self._memory.reserved(needed):
             return library.verify(fields.password, fields.stored, budget)
 
     def _has_budget_for_both(self, fields: FieldsToCheck) -> bool:
@@ -232,6 +234,8 @@ class Checking:
         if refusal in PASSWORD_REFUSALS:
             return f"line {line.number} isn't tried: {refusal.message}"
         fields = fields_to_check(line.data)
+        # A password longer than this costs too much with a hash as costly as a new one, but may be
+        # within the budget for names with cheaper hashes.
         longest = self._options.policy.longest or 0
         if refusal == OVER_BUDGET and fields is not None and len(fields.password) > longest:
             return f"line {line.number} isn't tried for every name: {refusal.message}"

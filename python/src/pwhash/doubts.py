@@ -22,8 +22,8 @@ TOO_LONG_FOR_CRYPT = (
     "more than 511 bytes, and no login by PAM or crypt(3) takes as many, as those of sshd and nginx"
 )
 
-# The names that each service reads as they are. It takes any other name for somebody else's, as
-# Apache does with a leading blank, or skips the line, as it does after a leading #.
+# The names that each service reads as they are. A service takes any other name for somebody else's,
+# as Apache does with a leading blank, or skips the line, as Apache does after a leading #.
 WEB_SERVER_NAME = rb"[^#\s\0-\x1f\x7f][^\0-\x1f\x7f]*"
 SERVICE_NAMES = {
     Service.APACHE: re.compile(WEB_SERVER_NAME),
@@ -80,6 +80,7 @@ def find_marks(data: bytes, password: bytes, windows: bool) -> Iterator[str]:
         yield "an empty password: Return alone logs in"
     if password.endswith(b"\r") and not windows:
         yield "a carriage return ends the password; --windows leaves it out"
+    # Without --windows the last character was reported above.
     if b"\r" in (data if windows else data[:-1]):
         yield "a carriage return inside"
     if data.startswith(BYTE_ORDER_MARK):

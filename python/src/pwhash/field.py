@@ -20,7 +20,7 @@ PREFIXES = {
     "sha256crypt": b"{SHA256-CRYPT}",
     "md5crypt": b"{MD5-CRYPT}",
 }
-# Any of them at the beginning of a field, in capital or small letters.
+# Any of these prefixes at the beginning of a field, in capital or small letters.
 FOR_CRYPT = re.compile(
     rb"(?i)\A(?:" + b"|".join(map(re.escape, (ANY_METHOD, *PREFIXES.values()))) + rb")"
 )
@@ -30,7 +30,8 @@ OF_OTHER_SCHEMES = re.compile(
     rb"(?i)\{(?:S?MD5|S?SHA(?:256|384|512)?|BLF-CRYPT|ARGON2(?:I|ID)?|PBKDF2(?:-SHA(?:256|512))?"
     rb"|SCRAM-SHA-(?:1|256))\}"
 )
-# The prefixes of digests in Base64, most of them with a salt behind the digest, and their bytes.
+# The prefixes of digests in Base64, most of them with a salt behind the digest, and how many bytes
+# each digest has.
 OF_DIGESTS = re.compile(rb"(?i)\{(S?)(MD5|SHA|SHA256|SHA384|SHA512)\}")
 DIGEST_BYTES = {b"MD5": 16, b"SHA": 20, b"SHA256": 32, b"SHA384": 48, b"SHA512": 64}
 BASE64 = re.compile(rb"([A-Za-z0-9+/]*)={0,2}")
@@ -57,7 +58,7 @@ HASHES = (
     mkpasswd.State.OVER_BUDGET,
     mkpasswd.State.UNKNOWN,
 )
-# Those of damaged hashes, which services treat as hashes.
+# The states of damaged hashes, which services treat as hashes.
 DAMAGED = (mkpasswd.State.DEAD, mkpasswd.State.MALFORMED)
 
 

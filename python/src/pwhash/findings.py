@@ -7,6 +7,7 @@ from typing import Dict, NamedTuple, Optional, Union
 
 import mkpasswd
 
+# Colours of text in a terminal, as in the sequence ESC [ 31 m.
 RED, YELLOW, CYAN, GREEN, PLAIN = 31, 33, 36, 32, 0
 
 # Schemes that mkpasswd can't judge, but that are no problem.
@@ -14,7 +15,7 @@ FINE_SCHEMES = frozenset(["yescrypt", "gost-yescrypt", "bcrypt"])
 
 
 class Finding(enum.Enum):
-    """The findings, worst first: the word, its colour, and what to do."""
+    """The findings, worst first. Each has a word, the word's colour, and what to do."""
 
     NO_PASSWORD = (
         "no password",

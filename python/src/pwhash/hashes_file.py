@@ -152,7 +152,7 @@ class HashesFile:
         return None
 
     def _show(self, number: int, line: bytes, reason: str) -> None:
-        kind = re.sub("[0-9]+", "", reason)
+        kind = re.sub("[0-9]+", "", reason)  # the reason, whatever line it names
         self._kind_counts[kind] += 1
         if self._kind_counts[kind] <= MAX_SHOWN:
             name, colon, field = line.partition(b":")

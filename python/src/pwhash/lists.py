@@ -41,7 +41,7 @@ class ListWriter:
 
     def make_folder(self) -> None:
         """Creates the folder for several lists."""
-        before = os.umask(0o777 & ~FOLDER_MODE)
+        before = os.umask(0o777 & ~FOLDER_MODE)  # so that the mode is exactly FOLDER_MODE
         try:
             os.mkdir(self._target.name, FOLDER_MODE, dir_fd=self._target.folder)
         except FileExistsError:
@@ -99,7 +99,7 @@ def refuse_folder(path: str) -> None:
 
 
 def open_own_folder(target: FileInFolder) -> int:
-    """Opens the folder of several lists. Refuses one that no run of this user has created."""
+    """Opens the folder of several lists. Refuses one that can't be from a run of this user."""
     with errors_named(target.display_name):
         status = target.status()
         if status is None or not is_own_folder(status):
@@ -121,7 +121,7 @@ def file_in(target: FileInFolder, folder: int, name: str) -> FileInFolder:
 
 
 def identity(status: os.stat_result) -> bytes:
-    """Returns what is different for a list that was edited, and for another file."""
+    """Returns the size, time and inode of a list, which change if it is edited or replaced."""
     return b"%d,%d,%d" % (status.st_size, status.st_mtime_ns, status.st_ino)
 
 

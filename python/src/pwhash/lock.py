@@ -16,7 +16,7 @@ from typing import NamedTuple, Optional
 from pwhash.errors import Stop, errors_named
 from pwhash.place import Place
 
-SECONDS = 10.0
+MAX_WAIT_SECONDS = 10.0
 PAUSE_SECONDS = 0.02
 OWN_MODE = 0o600
 # If a FIFO has the lock's name, O_NONBLOCK keeps the call from waiting.
@@ -44,7 +44,7 @@ def hold_lock(place: Place, owner: Owner) -> Iterator[None]:
 
 def wait_for_lock(place: Place, owner: Owner) -> int:
     """Waits for the lock, and returns its descriptor."""
-    end = time.monotonic() + SECONDS
+    end = time.monotonic() + MAX_WAIT_SECONDS
     lock = try_once(place, owner)
     while lock is None:
         if time.monotonic() > end:
@@ -84,7 +84,7 @@ def open_lock(place: Place, owner: Owner) -> int:
     except FileExistsError:  # another process has just created it
         return os.open(place.lock, FLAGS, dir_fd=place.folder)
     # A service of that user can then take the lock even if the superuser was the first to change
-    # the file. Only the superuser can do this, and nobody else needs to.
+    # the password file. Only the superuser can give the lock away, and nobody else needs to.
     with contextlib.suppress(OSError):
         os.fchown(lock, owner.user, owner.group)
     return lock

@@ -31,7 +31,7 @@ class Look:
         self._doubts = Doubts(options.service, is_table, options.input.windows)
         self._counts: Counter[str] = Counter()
         self._hidden = 0  # problems that aren't shown
-        self._has_lines = False  # after --skip-locked and --skip-unknown
+        self._has_lines = False  # whether --skip-locked and --skip-unknown leave any
         self._refused: Set[int] = set()
         self._doubtful: Set[int] = set()
 
@@ -77,13 +77,13 @@ class Look:
             self._show(line, [reason], self._options.skip_refused)
 
     def _show(self, line: Line, reasons: List[str], is_left_out: bool) -> None:
-        """Shows the problems of a line, however many there are if the line is left out."""
+        """Shows the problems of a line: all if it is left out, and else MAX_SHOWN of each kind."""
         # Without a colon, or in a refused row, what stands first may be a password.
         is_named = b":" in line.data and line.refused_row is None
         name = name_of(line) if is_named else b""
         where = shown_line(self._source.name, line.number, name)
         for reason in reasons:
-            kind = re.sub("[0-9]+", "", reason)
+            kind = re.sub("[0-9]+", "", reason)  # the reason, whatever line it names
             self._counts[kind] += 1
             if self._counts[kind] > 1:  # the first message of a kind says what to do
                 reason = reason.partition(";")[0]

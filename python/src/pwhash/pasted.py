@@ -1,7 +1,8 @@
 """Finds the hash in what somebody pastes: a bare hash, or the line of a file that it stands in.
 
-No hash has blanks in it, so those that an e-mail puts between its parts can be left out. What isn't
-plain to tell stays as it was pasted, and is refused then: pwhash never guesses which hash is meant.
+No hash has blanks in it, so those that an e-mail puts between its parts can be left out. If it
+isn't clear where a hash begins, the second field of the line is taken, as in a password file, and
+pwhash verify refuses that unless it is a hash: pwhash never guesses which hash is meant.
 """
 
 from __future__ import annotations
@@ -22,6 +23,7 @@ PASSWORD_PROMPT, HASH_PROMPT = b"Password: ", b"Hash (not shown either): "
 REST_PROMPT = b"It isn't whole. The rest, or just Return: "
 MAX_PASTED = 4096  # bytes of a line with a hash; the longest hash has 144
 SECONDS_FOR_REST = 5  # that a pipe may take to bring the rest of a hash
+# Characters that nobody sees in what was pasted, such as a soft hyphen or a byte order mark.
 SHOWS_NOTHING = {ord(each): None for each in "\u00ad\u200b\u200c\u200d\u2060\ufeff"}
 # The quotes of word processors, as shells and configurations write them.
 AS_ASCII = {
@@ -148,7 +150,7 @@ def is_plain_before(text: bytes) -> bool:
 
 
 def end_of_hash(line: bytes, begin: int) -> int:
-    """Returns where a hash ends that begins here: at the quote that it begins with, if it does."""
+    """Returns where the hash that begins here ends: at the closing quote, if it is in quotes."""
     before = line[begin - 1 : begin]
     if before and before in QUOTES:
         end = line.find(before, begin)

@@ -30,7 +30,7 @@ class Place(FileInFolder):
 
     @property
     def lock(self) -> str:
-        """The name of the file that is locked."""
+        """The name of the lock file."""
         return f"{self.name}.mkpasswd.lock"
 
     @property

@@ -58,7 +58,7 @@ def refuse_unfit(place: Place) -> None:
 
 
 def hash_of_password(options: SetOptions, session: Session) -> bytes:
-    """Returns the hash of a new password, which it makes or asks for."""
+    """Generates a new password or asks for it, and returns its hash."""
     policy = options.policy
     if options.generate:
         password = generated(policy, session.console)
@@ -87,7 +87,7 @@ class Line:
     def check(self) -> None:
         """Finds out whether the change is possible, and whether it is needed."""
         with password_file.opened(self._place) as file:
-            self.changed(file.content)
+            self.changed(file.content)  # raises if it can't be changed, and sets is_done_already
             entry = password_file.find(file.content, self._name, self._file)
         if entry is None:
             self._say(f"{self._file} has no {self._user} yet: a line is added.")
@@ -105,7 +105,7 @@ class Line:
         return password_file.with_field(content, entry, self._change_field(entry))
 
     def _refuse_other_field(self, content: bytes, entry: Entry) -> None:
-        """Refuses a second field that is no hash: in htdigest's files it is a realm."""
+        """Refuses a field that may be a plain password, or a realm as in htdigest's files."""
         old, behind = entry.field, content[entry.field_end : entry.field_end + 1]
         if old.is_locked and not old.is_surely_locked:
             raise UsageError(
@@ -166,7 +166,7 @@ class Line:
     def _fits(self, prefix: bytes) -> bool:
         """Whether the new hash may follow a prefix, so that the service finds it there.
 
-        Of the prefixes for crypt(3), Apache and nginx know none, and LDAP's servers only {CRYPT}.
+        Apache and nginx know no prefix for crypt(3), and LDAP's servers only {CRYPT}.
         """
         service = self._options.service
         if service is None or service is Service.DOVECOT:

@@ -17,9 +17,10 @@ MAX_NAMED = 20  # names, or numbers of lines, in a message
 LONGEST_SHOWN = 64  # bytes; no name that mkpasswd accepts is longer
 # Blanks, quotes and the separators of tables, also full-width ones: the line may be a row.
 IN_NO_NAME = re.compile("[\\s,;|\"'`\u2018-\u201f\xab\xbb\uff0c\uff1a\uff1b\uff5c]")
-# What may be a hash of DES: 13 characters of all kinds.
+# What may be a hash of DES: 13 characters of crypt's alphabet, with both cases and a digit, . or /.
 DES = re.compile(rb"(?=.*[A-Z])(?=.*[a-z])(?=.*[./0-9])[./0-9A-Za-z]{13}")
-# What names of users have. With another sign, or both a capital and a digit, it may be a password.
+# The characters of users' names. What has another one, or both a capital and a digit, may be a
+# password.
 OF_NAMES = re.compile(r"[\w.@+\\-]+")
 CAPITAL_AND_DIGIT = re.compile(r"(?=.*[A-Z])(?=.*[0-9])")
 # The beginning of a hash or of a cut one, as $6$ and {SSHA}.
@@ -42,7 +43,7 @@ def may_be_shown(name: bytes) -> bool:
 
 
 def is_no_password(name: bytes) -> bool:
-    """Whether this looks like a name, and not like a password either, whose column is another."""
+    """Whether this looks like a name, and not like a password from a line password:name."""
     text = name.strip().decode(errors="ignore")
     if not OF_NAMES.fullmatch(text) or CAPITAL_AND_DIGIT.match(text):
         return False

@@ -81,7 +81,7 @@ class Source:
     def change(self) -> Optional[str]:
         """Says what has changed about the file since it was opened, or returns None.
 
-        It ignores the ctime, which reading and chmod change.
+        It ignores the ctime, which chmod and a new link change too.
         """
         if not self.is_regular:
             return None

@@ -11,7 +11,7 @@ from pwhash.errors import UsageError, errors_named
 from pwhash.source import open_in_time, refuse_as_output
 from pwhash.text import display_name
 
-LONGEST_LINE = 1 << 17
+LONGEST_LINE = 1 << 17  # bytes
 COMMENT = b"#"  # in the files of services; glibc skips such lines of /etc/shadow, too
 
 

@@ -6,6 +6,7 @@ import ctypes
 import errno
 import os
 
+# As in <linux/prctl.h> and <linux/fs.h>.
 PR_SET_DUMPABLE = 4
 RENAME_NOREPLACE, RENAME_EXCHANGE = 1, 2
 

@@ -13,6 +13,7 @@ SHOWS_NOTHING = re.compile(
     "\U000e0100-\U000e01ef]"
 )
 DECOMPOSED = "letters and accents apart (not Unicode NFC), as few keyboards send them"
+# What $'..' has as an octal number: all but printable ASCII, its quote and its backslash.
 NEEDS_NUMBER = re.compile(rb"[^\x20-\x7e]|['\\]")
 
 
@@ -31,10 +32,11 @@ def is_visible(text: str) -> bool:
 
 
 def printable(data: bytes) -> str:
-    """Returns bytes as text without control characters, which can't control a terminal."""
+    """Returns bytes as text that can't control a terminal, with escapes such as \\x1b."""
     text = data.decode("utf-8", "backslashreplace")
     if text.isprintable():
         return text
+    # ascii() puts an escape between quotes.
     return "".join(each if each.isprintable() else ascii(each)[1:-1] for each in text)
 
 

@@ -70,7 +70,7 @@ def run(options: VerifyOptions, session: Session) -> bool:
 
 
 def ask_for_password(options: VerifyOptions, console: Console) -> Attempt:
-    """Finds the hash of a name in a file, and asks for the password if one can match."""
+    """Finds the hash of a name in a file, and asks for the password if they can be compared."""
     line = find_only_line(options, console)
     whose = shown_line(display_name(options.path), line.number, line.name)
     stored = whole_hash(line.field, whose)
@@ -114,7 +114,7 @@ def find_only_line(options: VerifyOptions, console: Console) -> Stored:
 
 
 def whole_hash(field: bytes, whose: str, advice: str = "") -> bytes:
-    """Returns the hash in a field, without a prefix. Refuses what no password can match.
+    """Returns the hash in a field, without a prefix. Refuses what can't be compared.
 
     The advice is for a field that has no hash.
     """
@@ -128,7 +128,7 @@ def whole_hash(field: bytes, whose: str, advice: str = "") -> bytes:
 
 
 def describe_problem(stored: bytes) -> Optional[str]:
-    """Says why no password can match a stored field, or returns None."""
+    """Says why no password can be compared with a stored field, or returns None."""
     found = library.describe(stored)
     if found.state is State.UNKNOWN or stored.startswith(b"{"):
         return f"a hash of {found.scheme or 'another scheme'}, which pwhash can't check"
