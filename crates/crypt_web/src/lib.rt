@@ -10,7 +10,7 @@
 //! with a report returns 1 for yes: it did what its name says, the password matches, the stored hash is outdated, or
 //! for an audit the stored hash is current. Otherwise it returns 0. It always writes the whole report. The report's
 //! `error` is 0, or the number of the reason why the call failed. After an error, `out` holds the token `*0` or `*1`,
-//! which no password matches, cut to the capacity of `out`.
+//! which no password matches, and a zero byte. If `out` is too small, the token is cut so that the zero byte fits.
 //!
 //! If several errors apply, the call reports the first in this order: password, setting, method, rounds, budget,
 //! capacity of `out`, memory. A login and an audit check the method and the rounds before the field. A login that can't
@@ -214,7 +214,7 @@ pub extern "C" fn web_needs_rehash(
 /// Hashes a password with a setting, and writes the hash and a zero byte to `out`. With the same budget, [`web_verify`]
 /// accepts the hash for the password, unless too little memory is lent for scrypt.
 ///
-/// After an error, `out` holds the token `*0`, or `*1` if the setting begins with `*0`, cut to the capacity of `out`.
+/// After an error, `out` holds the token `*0`, or `*1` if the setting begins with `*0`.
 ///
 /// # Errors
 ///
@@ -260,7 +260,7 @@ pub extern "C" fn web_need(password: &[u8], text: &[u8], budget: u64, need: &mut
 ///
 /// The method is 1 for md5crypt, 5 for sha256crypt, 6 for sha512crypt or 7 for scrypt, as in their hashes. The rounds
 /// are those of `mkpasswd -R`, except that 0 stands for the recommended ones. After an error, `out` holds the token
-/// `*0`, cut to the capacity of `out`.
+/// `*0`.
 ///
 /// # Errors
 ///
@@ -398,8 +398,8 @@ pub extern "C" fn web_cost(setting: &[u8], password_len: usize, report: &mut Rep
     tell(report, report_bound(password_len, setting))
 }
 
-/// Writes the message for the reason with this number and a zero byte to `out`, cut to the capacity of `out`. If no
-/// reason has the number, the message is `unknown reason`.
+/// Writes the message for the reason with this number to `out`, followed by a zero byte. If `out` is too small, the
+/// message is cut so that the zero byte fits. If no reason has the number, the message is `unknown reason`.
 ///
 /// Returns 1, or 0 if the message was cut or no reason has the number.
 #[unsafe(no_mangle)]
@@ -409,8 +409,8 @@ pub extern "C" fn web_message(error: u32, out: &mut [u8]) -> i32
     put_message(error, out)
 }
 
-/// Writes the crypt(5) name of the scheme with this number and a zero byte to `out`, cut to the capacity of `out`. If
-/// no scheme has the number, the name is `unknown scheme`.
+/// Writes the crypt(5) name of the scheme with this number to `out`, followed by a zero byte. If `out` is too small,
+/// the name is cut so that the zero byte fits. If no scheme has the number, the name is `unknown scheme`.
 ///
 /// Returns 1, or 0 if the name was cut or no scheme has the number.
 #[unsafe(no_mangle)]
