@@ -128,8 +128,8 @@ pub Err-from_IsMakeRefused : {T : Type 0} (m : Method) (rounds : ℕ) (given : O
 Err-from_IsMakeRefused m rounds given (Ok x) ok err fault refused = absurd (IsMakeRefused-breaks_some m rounds given fault refused ok)
 Err-from_IsMakeRefused m rounds given (Err f) ok err fault refused = ap (λ (g : MakeFault). Err g) (make_refusal_unique m rounds given f fault err refused)
 
--- If a result is Ok only if no rule is broken, and otherwise has the error of the first broken rule, it is Ok exactly
--- if no rule is broken.
+-- Let a result be Ok only if no rule is broken, and otherwise have the error of the first broken rule. Then it is Ok
+-- exactly if no rule is broken.
 pub IsOk-iff_no_broken_rule : {T : Type 0} (m : Method) (rounds : ℕ) (given : Option (List ℕ)) (r : Result T MakeFault) → OnOk r ((f : MakeFault) → ¬ BreaksMake m rounds given f) → IfErr r (IsMakeRefused m rounds given) → IsOk r ↔ ((f : MakeFault) → ¬ BreaksMake m rounds given f)
 IsOk-iff_no_broken_rule m rounds given (Ok x) ok err = (λ e. ok, λ none. refl)
 IsOk-iff_no_broken_rule m rounds given (Err f) ok err = (λ e. absurd (cc e), λ none. absurd (IsMakeRefused-breaks_some m rounds given f err none))

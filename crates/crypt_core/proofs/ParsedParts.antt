@@ -93,8 +93,8 @@ digit_range [] i number lt = absurd number
 digit_range (d ∷ ds) zero number lt = (omega (arith, number.0), number.1)
 digit_range (d ∷ ds) (suc i) number lt = number.2 i 0 (omega arith)
 
--- If a number is the value of the first i digits, capped, then adding digit i and capping again gives the value of the
--- first i + 1 digits, capped.
+-- If a number is the value of the first i digits, capped, then appending digit i to it and capping again gives the
+-- value of the first i + 1 digits, capped.
 pub capped_value-more : (ds : List ℕ) (i number digit : ℕ) → i < length ds → IsRoundsNumber ds → digit ≡ get_or ds i 0 → number ≡ min (digits_value 10 (take i ds)) max_rounds → min (number * 10 + (digit - 48)) max_rounds ≡ min (digits_value 10 (take (i + 1) ds)) max_rounds
 capped_value-more ds i number digit lt is_number digit_is so_far =
     let range = digit_range ds i is_number lt in

@@ -34,13 +34,13 @@ module _ {T : Type 0} where
     pub bytes : new.bytes ≡ old.bytes
     pub idle : new.idle ≡ old.idle
 
-  -- IsFinished old new: the output was flushed, and the flush succeeded.
+  -- IsFinished old new: the output was flushed.
   pub record IsFinished (old new : Device T) : Type 0 where
     pub kept : IsKept old new
     pub unfailed : IsUnfailed old new
     pub flushed : IsFlushed old new
 
-  -- IsUnfinished old new: the output was flushed, and the flush failed.
+  -- IsUnfinished old new: a flush was tried and failed.
   pub record IsUnfinished (old new : Device T) : Type 0 where
     pub kept : IsKept old new
     pub failed : FailsOnce old new

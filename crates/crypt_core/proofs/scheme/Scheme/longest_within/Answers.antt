@@ -15,8 +15,8 @@ use Rattle.crypt_core.proofs.scheme.Scheme.longest_within.Goals as goal
 new_cost-mono : (scheme : Scheme) (n most : ℕ) → IsScheme scheme → n ≤ most → most ≤ password_limit → new_cost scheme n ≤ new_cost scheme most
 new_cost-mono scheme n most in_range less short = cost_by-mono scheme n most (method_row (method_of scheme)).made_salt_length in_range less short
 
--- If a new hash for the length `within` is within the limit, and one for the next length isn't, exactly the lengths up
--- to `within` are.
+-- Suppose that a new hash of a password of length `within` costs at most the limit, and that one for the next length
+-- costs more. Then a new hash costs at most the limit exactly if its password has at most the length `within`.
 within-iff_le : (scheme : Scheme) (limit within above : ℕ) → IsScheme scheme → above ≡ within + 1 → within ≤ password_limit
     → new_cost scheme within ≤ limit → (above ≤ password_limit → limit < new_cost scheme above)
     → (len : ℕ) → len ≤ password_limit → (new_cost scheme len ≤ limit ↔ len ≤ within)
