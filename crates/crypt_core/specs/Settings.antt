@@ -11,7 +11,7 @@ use Rattle.crypt_core.specs.declared.scheme.Scheme.{Scheme}
 use Rattle.crypt_core.specs.declared.scheme.Scheme.TheVariants.{Md5crypt, Shacrypt, Scrypt}
 use Rattle.crypt_core.specs.Methods.{method_row}
 
--- What a setting keeps of a string: the scheme with its cost, and the salt.
+-- What a setting keeps of a string: the scheme and the salt.
 pub record SettingValue : Type 0 where
   pub scheme : Scheme
   pub salt : List ℕ
@@ -90,7 +90,8 @@ KeepsSalt (Scrypt params) field salt = IsAccepted params × (salt ≡ field) × 
 KeepsSalt scheme field salt = salt ≡ take (method_row (method_of scheme)).salt_limit field
 
 -- Spells text kept: the text spells this setting. It has no more bytes than the limit, all of them setting bytes. It
--- begins with the prefix and the cost of the scheme, then comes the field of the salt, and then a rest that is ignored.
+-- begins with the prefix and the cost part of the scheme, then comes the field of the salt, and then a rest that is
+-- ignored.
 pub record Spells (text : List ℕ) (kept : SettingValue) : Type 0 where
   pub short : length text ≤ setting_limit
   pub bytes : All IsSettingByte text

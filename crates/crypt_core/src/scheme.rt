@@ -1,5 +1,6 @@
-//! Schemes: a method with its cost, but without a salt. A scheme decides the work of a hash for given lengths of
-//! password and salt ([`Scheme::bound`], [`Scheme::cost`]), and whether a newer scheme replaces it.
+//! Schemes: a method with its rounds, or scrypt with its N, r and p, but without a salt. A scheme decides the work of a
+//! hash for given lengths of password and salt ([`Scheme::bound`], [`Scheme::cost`]), and whether a newer scheme
+//! replaces it.
 
 ghost use Rattle.std.specs.Prelude.{◌≡◌, ◌+◌, ◌≤◌, ◌↔◌, IsOk, IfOk, IfErr, true, false};
 ghost use Rattle.kdf_core.specs.Params.{IsAccepted};
@@ -108,10 +109,10 @@ pub enum Sha {
     Sha512,
 }
 
-/// A method with its cost.
+/// A method with its rounds, or scrypt with its N, r and p.
 #[derive(Clone, Copy, Debug, PartialEq, Eq)]
 pub enum Scheme {
-    /// FreeBSD's md5crypt, whose cost is fixed.
+    /// FreeBSD's md5crypt, whose number of rounds is fixed.
     Md5crypt,
     /// SHA-crypt over this digest, with its rounds.
     Shacrypt(Sha, Rounds),
@@ -127,7 +128,7 @@ impl Scheme {
     ///
     /// # Errors
     ///
-    /// - `Cost`: the method is scrypt, and the number is neither 0 nor from 6 to 11.
+    /// - `Cost`: the method is scrypt, which does not take the number.
     pub fn made(method: Method, rounds: u32) -> Result<Scheme, MakeFault>
         ensures made { IfOk result (λ scheme. scheme ≡ made_scheme method rounds) }
         ensures in_range { IfOk result IsScheme }

@@ -1,4 +1,4 @@
-//! Settings: the method, cost and salt that a string of crypt(5) spells.
+//! Settings: the scheme and the salt that a string of crypt(5) spells.
 //!
 //! Every `Setting` is spelled by some string. [`Setting::read`] parses such a string, and `Setting::text` returns the
 //! setting's one canonical form.
@@ -37,7 +37,7 @@ pub const CANONICAL_LIMIT: usize = 3 + COST_CHARACTERS + SCRYPT_SALT_LIMIT;
 /// ([`HASH_LIMIT`](crate::hash::HASH_LIMIT)).
 pub const TEXT_CAPACITY: usize = 160;
 
-/// A setting: a method with its cost, and the salt that the method keeps.
+/// A setting: a scheme, and the salt that its method keeps.
 #[derive(Debug, Drop)]
 pub struct Setting {
     scheme: Scheme,
@@ -63,7 +63,7 @@ impl Setting {
         self.scheme.method()
     }
 
-    /// Returns the scheme: the method with its cost.
+    /// Returns the scheme: the method with its rounds, or scrypt with its N, r and p.
     pub fn scheme(&self) -> Scheme
         ensures { result ≡ self.now.scheme }
     {

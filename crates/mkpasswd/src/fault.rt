@@ -25,7 +25,7 @@ pub enum UsageFault {
     TwoSalts,
     /// More than one of PASSWORD, `-s`, `--batch`, `--check` and `--audit` is given.
     TwoModes,
-    /// The method does not accept the cost or the given salt.
+    /// The method does not accept the rounds or the given salt.
     Make(MakeFault),
     /// An allocation failed.
     OutOfMemory,

@@ -1,6 +1,6 @@
 -- Proves the invariant and the clauses of `Setting::make` for each of its results: the error for a bad salt, the error
--- for a bad cost, or a setting. The canonical form spells the setting. For a bad salt, `given_salt` returns the error
--- of the first broken rule; for a good salt with a bad cost, that error is `Cost`. The error of the first broken rule
+-- for bad rounds, or a setting. The canonical form spells the setting. For a bad salt, `given_salt` returns the error
+-- of the first broken rule; for a good salt with bad rounds, that error is `Cost`. The error of the first broken rule
 -- is unique (MadeSettings), so `each_refusal` follows from `refused` and `accepted`.
 use Rattle.std.proofs.Common.{◌≡◌, ◌∙◌, ap, rules, subst, sym}
 use Rattle.std.specs.Prelude.{Err, Some}

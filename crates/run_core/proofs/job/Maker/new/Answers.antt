@@ -1,6 +1,6 @@
 -- Proves the goals of `Maker::new` at its four returns. With a salt, its clauses are those of `Setting::make`, moved
 -- from the salt in the branch to the argument (`accepted-same_salt`). Without a salt, they follow from what
--- `Scheme::made` returned, since only the cost can be refused (`MakerCosts`).
+-- `Scheme::made` returned, since only the rounds can be refused (`MakerCosts`).
 use Rattle.std.proofs.Common.{◌≡◌, ℕ, List, ap, refl, subst, sym, ◌∙◌}
 use Rattle.std.specs.Prelude.{◌↔◌, Err, None, Option, Some}
 use Rattle.crypt_core.specs.MadeSettings.{BreaksMake, IsMakeRefused}
