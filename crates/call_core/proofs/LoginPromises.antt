@@ -23,8 +23,8 @@ Answers-zero result report answers never = elim answers.0 [
   | inr zero ↦ zero
 ]
 
--- With a budget of 0 and a valid method and rounds, the limit for a password of this length is that of the policy; it
--- is 0 if the password is too long or its new hash is above the policy's limit (`limit_by`).
+-- With a budget of 0 and a valid method and rounds, the limit for a password of this length is `limit_by` of the scheme
+-- that they make.
 pub limit_of-policy : (number rounds budget len : ℕ) (scheme : Scheme) → IsSchemeMade TakesNewRounds number rounds scheme → budget ≡ twice
     → limit_of number rounds budget len ≡ limit_by scheme len
 limit_of-policy number rounds budget len scheme makes policy = rw policy (limit_in-allowance number rounds scheme Policy len makes)

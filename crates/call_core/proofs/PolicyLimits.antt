@@ -3,8 +3,8 @@
 -- hash and lets nobody in.
 --
 -- The clauses `used` of `report_limit`, `writes` of mkpasswd_new, and `treats_alike` of a login rest on these lemmas,
--- and so does `ForeseesLogins` of an audit. The limit for a password whose new hash is above the policy's limit is 0,
--- and every hash costs more than 0.
+-- and so does `ForeseesLogins` of an audit. Where `limit_by` is 0, no hash is within the limit, because every hash
+-- costs more than 0.
 use Rattle.std.proofs.Common.{◌≡◌, ◌≤◌, ◌<◌, ◌+◌, ◌*◌, ◌⊎◌, ℕ, Bool, List, [], ◌∷◌, length, nat_lt, false, true, inl, inr, refl, ap, sym, ◌∙◌, arith}
 use Rattle.std.specs.Prelude.{MatchBool, ◌||◌, if◌then◌else◌}
 use Rattle.std.specs.Option.{option_map_or}

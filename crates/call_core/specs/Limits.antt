@@ -46,8 +46,8 @@ abbrev pub method_limit : Method → ℕ → ℕ → ℕ
 method_limit method rounds len = if takes_new_rounds method rounds then limit_by (made_scheme method (chosen_rounds method rounds)) len else 0
 
 -- limit_in number rounds limit len: the most that a login or a new hash may cost for a password of this length: the
--- budget, or the limit of the policy. A policy's limit is 0 if no method has the number or the method does not take the
--- rounds, if the password is too long, or if its new hash is above the limit.
+-- caller's budget, or `method_limit` for the policy with this method and these rounds. For a policy it is 0 if no
+-- method has the number.
 abbrev pub limit_in : ℕ → ℕ → Limit → ℕ → ℕ
 limit_in number rounds Policy len = option_map_or (λ (method : Method). method_limit method rounds len) (chosen_method number) 0
 limit_in number rounds (Bytes budget) len = budget
@@ -56,8 +56,7 @@ limit_in number rounds (Bytes budget) len = budget
 abbrev pub meant : ℕ → Limit
 meant budget = if budget == twice then Policy else Bytes budget
 
--- limit_of number rounds budget len: `limit_in` for the budget that a caller passes, where 0 means the limit of the
--- policy.
+-- limit_of number rounds budget len: `limit_in` for the limit that the caller's budget means (`meant`).
 abbrev pub limit_of : ℕ → ℕ → ℕ → ℕ → ℕ
 limit_of number rounds budget len = limit_in number rounds (meant budget) len
 

@@ -13,8 +13,8 @@
 //! `OutOfMemory` and not the field's error. [`mkpasswd_proved_verify`], [`mkpasswd_proved_login`] and
 //! [`mkpasswd_audit_bytes`] take a stored field, and report `Locked` for a locked one and `NoHash` for an empty one.
 //! The other calls take a setting, and report the first rule of a setting that such a field breaks. The method 0 is the
-//! recommended one, sha512crypt, and rounds of 0 are the recommended ones. The calls share no state and start no
-//! threads, so many threads may call at once.
+//! recommended one, sha512crypt, and rounds of 0 are the recommended ones: 656000 for SHA-crypt, and 7 for scrypt. The
+//! calls share no state and start no threads, so many threads may call at once.
 #![tactic(auto)]
 
 ghost use Rattle.std.specs.Prelude.{◌≡◌, ◌≢◌, ◌⊎◌, ◌↔◌, ◌<◌, ◌≤◌, pos, [], length, take};
@@ -106,7 +106,7 @@ pub extern "C" fn mkpasswd_proved_verify(
 /// The limit is the budget, except that a budget of 0 stands for the limit of the policy: twice the cost of a new hash
 /// with the method and the rounds for a password of 64 bytes, and at least 150000000. The policy's limit admits a new
 /// hash of every password of up to 64 bytes. With it, the call refuses a password whose new hash would cost more,
-/// without work and whatever the field is. Rounds of 0 are the recommended ones.
+/// without work and whatever the field is.
 ///
 /// # Errors
 ///
@@ -163,10 +163,9 @@ pub extern "C" fn mkpasswd_proved_login(
 /// the next call fail.
 ///
 /// The method is 1 for md5crypt, 5 for sha256crypt, 6 for sha512crypt or 7 for scrypt, as in their hashes. The rounds
-/// are those of `mkpasswd -R`, except that 0 stands for the recommended ones. A budget of 0 is the limit of the policy,
-/// as for [`mkpasswd_proved_login`]. With the same method, rounds and budget, [`mkpasswd_proved_login`] accepts the
-/// hash for its password, unless scrypt lacks memory, and [`mkpasswd_needs_rehash_bytes`] does not report it as
-/// outdated.
+/// are those of `mkpasswd -R`, unless they are 0. A budget of 0 is the limit of the policy, as for
+/// [`mkpasswd_proved_login`]. With the same method, rounds and budget, [`mkpasswd_proved_login`] accepts the hash for
+/// its password, unless scrypt lacks memory, and [`mkpasswd_needs_rehash_bytes`] does not report it as outdated.
 ///
 /// # Errors
 ///
@@ -241,10 +240,10 @@ pub extern "C" fn mkpasswd_needs_rehash_bytes(
 /// Audits the stored hash in a field. Returns 1 if it is current: it is whole, no hash with its setting costs more than
 /// the budget, and a new hash with the method and the rounds would not replace it.
 ///
-/// Rounds of 0 are the recommended ones: 656000 for SHA-crypt, and 7 for scrypt. A budget of 0 is the greatest cost of
-/// a hash with the method and the rounds, and at least that of sha512crypt with 656000 rounds. With a budget of 0, a
-/// hash is also over budget if with its setting even the empty password costs more than the limit of the policy: then
-/// no login with the method, the rounds and a budget of 0 checks any password against it.
+/// A budget of 0 is the greatest cost of a hash with the method and the rounds, and at least that of sha512crypt with
+/// 656000 rounds. With a budget of 0, a hash is also over budget if with its setting even the empty password costs more
+/// than the limit of the policy: then no login with the method, the rounds and a budget of 0 checks any password
+/// against it.
 ///
 /// For a valid hash the report has the scheme, its rounds, or scrypt's N, r and p, and the greatest cost of a hash with
 /// its setting, for a password of 1,024 bytes. After `UnknownScheme` the report has the number of the scheme of

@@ -123,7 +123,7 @@ pub enum Scheme {
 impl Scheme {
     /// Returns the scheme of a method with these rounds.
     ///
-    /// 0 stands for the method's default. SHA-crypt takes any other number, clamped to 1000..999999999, with a
+    /// 0 stands for the method's default. SHA-crypt takes any other number, clamped by [`Rounds::written`], with a
     /// `rounds=` field. scrypt takes 6 to 11 (`N = 2^(rounds + 7)`, r = 32, p = 1). md5crypt ignores the rounds.
     ///
     /// # Errors

@@ -18,8 +18,8 @@
 //! the field's error. [`web_verify`], [`web_login`] and [`web_audit`] take a stored field, and report `Locked` for a
 //! locked one and `NoHash` for an empty one. The other calls take a setting, and report the first rule of a setting
 //! that such a field breaks. The method 0 is the recommended one, sha512crypt, and rounds of 0 are the recommended
-//! ones. The numbers of methods and errors, the report, and what `out` holds after an error are the same as in the
-//! calls for C.
+//! ones: 656000 for SHA-crypt, and 7 for scrypt. The numbers of methods and errors, the report, and what `out` holds
+//! after an error are the same as in the calls for C.
 //!
 //! Only scrypt needs memory: `words` of 4 bytes, and `bytes`. [`web_need`] and [`web_login_need`] report how much of
 //! both a call needs with the same arguments. If at least that much is lent, the call never reports `OutOfMemory`. The
@@ -116,7 +116,7 @@ pub extern "C" fn web_verify(
 /// The limit is the budget, except that a budget of 0 stands for the limit of the policy: twice the cost of a new hash
 /// with the method and the rounds for a password of 64 bytes, and at least 150000000. The policy's limit admits a new
 /// hash of every password of up to 64 bytes. With it, the call refuses a password whose new hash would cost more,
-/// without work and whatever the field is. Rounds of 0 are the recommended ones.
+/// without work and whatever the field is.
 ///
 /// # Errors
 ///
@@ -259,8 +259,7 @@ pub extern "C" fn web_need(password: &[u8], text: &[u8], budget: u64, need: &mut
 /// Makes a setting with a method, the rounds and three random numbers, and writes it and a zero byte to `out`.
 ///
 /// The method is 1 for md5crypt, 5 for sha256crypt, 6 for sha512crypt or 7 for scrypt, as in their hashes. The rounds
-/// are those of `mkpasswd -R`, except that 0 stands for the recommended ones. After an error, `out` holds the token
-/// `*0`.
+/// are those of `mkpasswd -R`, unless they are 0. After an error, `out` holds the token `*0`.
 ///
 /// # Errors
 ///
@@ -290,10 +289,10 @@ pub extern "C" fn web_setting(
 /// Audits the stored hash in a field, as `mkpasswd_audit` does for C. Returns 1 if it is current: it is whole, no hash
 /// with its setting costs more than the budget, and a new hash with the method and the rounds would not replace it.
 ///
-/// Rounds of 0 are the recommended ones: 656000 for SHA-crypt, and 7 for scrypt. A budget of 0 is the greatest cost of
-/// a hash with the method and the rounds, and at least that of sha512crypt with 656000 rounds. With a budget of 0, a
-/// hash is also over budget if with its setting even the empty password costs more than the limit of the policy: then
-/// no login with the method, the rounds and a budget of 0 checks any password against it.
+/// A budget of 0 is the greatest cost of a hash with the method and the rounds, and at least that of sha512crypt with
+/// 656000 rounds. With a budget of 0, a hash is also over budget if with its setting even the empty password costs more
+/// than the limit of the policy: then no login with the method, the rounds and a budget of 0 checks any password
+/// against it.
 ///
 /// For a valid hash the report has the scheme, its rounds, or scrypt's N, r and p, and the greatest cost of a hash with
 /// its setting, for a password of 1,024 bytes. After `UnknownScheme` the report has the number of the scheme of

@@ -21,9 +21,8 @@ parse_status DisplayHelp = 0
 parse_status DisplayVersion = 0
 parse_status _ = 2
 
--- fault_row fault: the exit status and the message of an error. The status is 0 if the arguments ask for help or the
--- version, 2 if the arguments or the password are invalid, and 3 after a system error, a failed allocation or too many
--- I/O calls. The message of `Parse` is empty, because `clap` has its own.
+-- fault_row fault: the exit status and the message of an error. The message of `Parse` is empty, because `clap` has its
+-- own.
 abbrev pub fault_row : Fault → ℕ × List ℕ
 fault_row Start = (3, codes "start fault")
 fault_row (Usage (Parse error)) = (parse_status (kind_of error), [])

@@ -30,7 +30,7 @@ const FAULT_LINE_ROOM: usize = 80;
 /// Runs the command with the arguments after the program's name, and returns the exit status.
 ///
 /// - 0: everything was done, or help or the version was printed.
-/// - 1: a line was refused or got the verdict `no`, or an audited account needs care.
+/// - 1: a line was refused or got the verdict `no`, or an audited account needs care ([`Tally::status`]).
 /// - 2: the arguments or the password are invalid.
 /// - 3: a system error occurred, an allocation failed, or the run needs too many I/O calls.
 ///

@@ -62,7 +62,8 @@ pub(crate) enum Outcome {
 }
 
 impl Outcome {
-    /// Returns whether the password does not match its stored hash, or the audited account needs care.
+    /// Returns whether the password does not match its stored hash, or the audited account needs care
+    /// ([`Finding::needs_care`]).
     pub(crate) fn is_misfit(&self) -> bool
         ensures { result ≡ is_misfit (Ok self.now) }
     {
