@@ -23,7 +23,7 @@ pub enum Reason {
     UnknownScheme = 5,
     /// The setting has `rounds=` without a valid number.
     BadRounds = 6,
-    /// The cost in scrypt's setting is not eleven characters of `./0-9A-Za-z`.
+    /// The cost part of scrypt's setting is not eleven characters of `./0-9A-Za-z`.
     BadCost = 7,
     /// N, r or p in scrypt's setting is out of its range.
     ScryptRange = 8,

@@ -253,8 +253,9 @@ SpellsCost-canonical Md5crypt n part field rest salt tail e end s = refl
 SpellsCost-canonical (Shacrypt sha r) n part field rest salt tail e end s = SpellsRounds-canonical sha r.count r.is_written n part field rest salt tail e end s
 SpellsCost-canonical (Scrypt c) n part field rest salt tail e end s = (refl, s.1, s.2, s.3)
 
--- If a setting's scheme is in range, its canonical cost part spells the cost, and its salt is a field that is kept
--- whole, then its canonical form, followed by a tail of setting bytes, spells the setting.
+-- If a setting's scheme is in range, its canonical cost part spells the scheme's rounds or parameters (`SpellsCost`),
+-- and its salt is a field that is kept whole, then its canonical form, followed by a tail of setting bytes, spells the
+-- setting.
 pub Spells-from_parts : (kept : SettingValue) (tail : List ℕ) → IsScheme kept.scheme → length kept.salt ≤ salt_limit (method_of kept.scheme)
     → All IsSettingByte kept.salt → IsField kept.salt tail → SpellsCost kept.scheme (cost_part kept.scheme) (kept.salt ++ tail) → KeepsSalt kept.scheme kept.salt kept.salt
     → All IsSettingByte tail → canonical_limit + length tail ≤ setting_limit → Spells (canonical_text kept ++ tail) kept

@@ -30,7 +30,7 @@ use Rattle.crypt_core.proofs.SpelledRounds.{rounds_field-append}
 
 -- ---- fronts that spell a scheme
 
--- A text that is a method's prefix, a cost part that spells the cost of a scheme of this method, and a rest, spells the
+-- A text that is a method's prefix, a cost part of a scheme of this method (`SpellsCost`), and a rest, spells the
 -- scheme.
 pub SpellsScheme-from_cost_part : (text : List ℕ) (scheme : Scheme) (after part rest : List ℕ) → text ≡ prefix (method_of scheme) ++ after → after ≡ part ++ rest → SpellsCost scheme part rest → SpellsScheme text scheme rest
 SpellsScheme-from_cost_part text scheme after part rest begins parts cost =
@@ -66,7 +66,7 @@ Spells-from_SpellsScheme text scheme after salt t s c k = record {
   salt = KeepsSalt-from_KeepsField scheme k.0 salt c k.2;
 }
 
--- ---- fronts without a cost
+-- ---- fronts without a cost part
 
 -- If a text spells rounds of SHA-crypt, it has a well-formed `rounds=` field or doesn't begin with `rounds=`.
 SpellsRounds-not-LacksRounds : (r : Rounds) (part after : List ℕ) → SpellsRounds r part after → LacksRounds (part ++ after) → ⊥

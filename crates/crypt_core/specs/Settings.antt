@@ -63,8 +63,8 @@ SpellsRounds rounds part after = MatchBool rounds.is_written
 abbrev pub scrypt_part : ScryptParams → List ℕ
 scrypt_part cost = numerals 1 cost.log_n ++ (numerals 5 cost.r ++ numerals 5 cost.p)
 
--- SpellsCost scheme part after: this part, followed by `after`, spells the cost of the scheme. For scrypt, log2 N fits
--- one character, and r and p fit five each.
+-- SpellsCost scheme part after: this part, followed by `after`, is a cost part that spells the scheme's rounds, or
+-- scrypt's parameters. For scrypt, log2 N fits one character, and r and p fit five each.
 abbrev pub SpellsCost : Scheme → List ℕ → List ℕ → Type 0
 SpellsCost Md5crypt part after = part ≡ []
 SpellsCost (Shacrypt sha rounds) part after = SpellsRounds rounds part after
@@ -103,8 +103,8 @@ pub record Spells (text : List ℕ) (kept : SettingValue) : Type 0 where
 
 -- ---- the canonical form
 
--- cost_part scheme: the cost of the scheme in canonical form. SHA-crypt's rounds appear only if the setting had a
--- `rounds=` field.
+-- cost_part scheme: the cost part of the scheme in canonical form: the rounds, or scrypt's parameters. SHA-crypt's
+-- rounds appear only if the setting had a `rounds=` field.
 abbrev pub cost_part : Scheme → List ℕ
 cost_part Md5crypt = []
 cost_part (Shacrypt sha rounds) = if rounds.is_written then rounds_field (decimal rounds.count) else []

@@ -92,8 +92,8 @@ impl Model for Maker {
 impl Maker {
     /// Returns a maker of settings with this method, these rounds, and this salt if there is one.
     ///
-    /// Without a salt, each setting gets a new one. `cost` (the number after `-R`) is the rounds, as [`Scheme::made`]
-    /// takes them.
+    /// Without a salt, each setting gets a new one. `cost` (the number after `-R`) gives the rounds, as
+    /// [`Scheme::made`] takes them.
     ///
     /// # Errors
     ///

@@ -16,10 +16,11 @@ use arrayvec::ArrayVec;
 impl Setting {
     /// Returns the setting of a method with these rounds and a given salt.
     ///
-    /// `cost` (the number after `-R`) is the rounds, as [`Scheme::made`] takes them. The salt has characters of crypt's
-    /// alphabet, at least one and at most as many as the method keeps (8, 16, 16 or 86).
+    /// `cost` (the number after `-R`) gives the rounds, as [`Scheme::made`] takes them. The salt has characters of
+    /// crypt's alphabet, at least one and at most as many as the method keeps (8, 16, 16 or 86).
     ///
-    /// For example, sha512crypt with 1 as the rounds and the salt `ab` has the setting `$6$rounds=1000$ab`.
+    /// For example, the setting of sha512crypt with rounds of 1, which are clamped, and the salt `ab` is
+    /// `$6$rounds=1000$ab`.
     ///
     /// # Errors
     ///
