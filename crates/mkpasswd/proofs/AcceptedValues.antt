@@ -42,7 +42,8 @@ is_free_arg-all_free [] e k d lt = absurd (omega arith)
 is_free_arg-all_free (x ∷ xs) e zero d lt = (and_parts _ _ e).0
 is_free_arg-all_free (x ∷ xs) e (suc k) d lt = is_free_arg-all_free xs (and_parts _ _ e).1 k d (omega arith)
 
--- A command all of whose rules are free has no exclusions, conflicts, overrides or groups.
+-- A command all of whose rules are free has no exclusions, conflicts, overrides or groups. `IsPlain` states this of each
+-- argument `k` below their number (`lt`); `d` stands for an argument beyond them, and is not used.
 IsPlain-all_free : (c : Command) → is_ready (shape_of c) ≡ true → HasReadyLeaves c → all_free (shape_of c).rules ≡ true → IsPlain c
 IsPlain-all_free c ready leaves free =
     let simple = ready_simple c ready leaves in
