@@ -90,7 +90,10 @@ fold_bytes-below digest (p ∷ ps) number bound all small =
     let product : bound * 256 * 256 ^ length ps ≡ bound * 256 ^ suc (length ps) = rw power (grind arith) in
     rw product at rest
 
--- If `fills` holds of the bound and the groups, the last character of a packed digest has a value below the bound.
+-- If `fills` holds of the bound and the groups, the last character of a packed digest has a value below the bound. In
+-- `last`, `.0` is that value, `.2` that it is below 4^k exactly if the number is below 256^k, and `.3` that the last
+-- character has it. `rest.1` is `EndsBelow` of the other groups: the value of the last character (`.0`), that it is
+-- below the bound (`.1`), and that the character has it (`.2`).
 EndsBelow-packed_by : (bound : ℕ) (groups : List (List ℕ)) (digest : List ℕ) → fills bound groups ≡ true → All (λ b. b < 256) digest
     → (0 < length (packed_by groups digest)) × EndsBelow bound (packed_by groups digest)
 unfolding fills EndsBelow

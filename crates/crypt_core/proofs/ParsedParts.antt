@@ -78,7 +78,8 @@ LacksNumber-no_dollar xs n h whole other rest number parts =
 pub take-drop_rest : (xs : List ℕ) (k : ℕ) → take (length xs - k) (drop k xs) ≡ drop k xs
 take-drop_rest xs k = ap (λ (n : ℕ). take n (drop k xs)) (sym (length-drop k xs)) ∙ take-length (drop k xs)
 
--- If the field does not reach the end of the text, the text is the field, a `$`, and what follows.
+-- If the field does not reach the end of the text, the text is the field, a `$`, and what follows. In `h`, `.0` is what
+-- follows the field, and `.2.1` that it is empty or begins with a `$`.
 pub append-number_dollar_rest : (xs : List ℕ) (n : ℕ) → HasField xs (take n xs) → n < length xs → xs ≡ take n xs ++ (dollar ∷ take (length xs - (n + 1)) (drop (n + 1) xs))
 append-number_dollar_rest xs n h below =
     let rest_is : h.0 ≡ drop n xs = append_cancel_left (take n xs) h.0 (drop n xs) (sym h.1 ∙ sym (take-append-drop n xs)) in

@@ -33,7 +33,8 @@ pub record Unpacks (groups : List (List ℕ)) (text : List ℕ) : Type 0 where
   pub packs : (digest : List ℕ) → map (slice_index digest) (order groups) ≡ bytes → packed_by groups digest ≡ text
 
 -- Unpacks a text that has the length of one packed group, and whose last character has a value that is possible for
--- this group.
+-- this group. `last_value` is the value of the last character: `.2` says that it is below 4^k exactly if the number is
+-- below 256^k, and `.3` that the character has it.
 Unpacks-one_group : (places text : List ℕ) → length text ≡ length places + 1 → All (Contains alphabet) text → EndsBelow (4 ^ length places) text
     → 4 ^ length places ≤ 64 → Unpacks (places ∷ []) text
 unfolding EndsBelow order joined

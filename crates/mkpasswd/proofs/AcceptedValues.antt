@@ -42,8 +42,8 @@ is_free_arg-all_free [] e k d lt = absurd (omega arith)
 is_free_arg-all_free (x ∷ xs) e zero d lt = (and_parts _ _ e).0
 is_free_arg-all_free (x ∷ xs) e (suc k) d lt = is_free_arg-all_free xs (and_parts _ _ e).1 k d (omega arith)
 
--- A command all of whose rules are free has no exclusions, conflicts, overrides or groups. `IsPlain` states this of each
--- argument `k` below their number (`lt`); `d` stands for an argument beyond them, and is not used.
+-- A command all of whose rules are free has no exclusions, conflicts, overrides or groups. `IsPlain` states this of
+-- each argument `k` below their number (`lt`); `d` stands for an argument beyond them, and is not used.
 IsPlain-all_free : (c : Command) → is_ready (shape_of c) ≡ true → HasReadyLeaves c → all_free (shape_of c).rules ≡ true → IsPlain c
 IsPlain-all_free c ready leaves free =
     let simple = ready_simple c ready leaves in
@@ -173,6 +173,7 @@ IsOnlyRule-parser_by_id (rule ∷ rules) own id q is = go (bytes_eq rule.id id) 
     alone : lacks_id rule.id rules ≡ true
     alone = (and_parts (lacks_id rule.id rules) _ own).0
 
+    -- The rule's id isn't empty, `help` or `version`, and the other rules have their own ids.
     differs_from : (not (bytes_eq rule.id []) ≡ true) × ((not (bytes_eq rule.id (codes "help")) ≡ true) × ((not (bytes_eq rule.id (codes "version")) ≡ true) × (have_own_ids rules ≡ true)))
     differs_from =
         let named = and_parts (not (bytes_eq rule.id [])) _ (and_parts (lacks_id rule.id rules) _ own).1 in
@@ -215,7 +216,8 @@ IsOnlyRule-parser_by_id (rule ∷ rules) own id q is = go (bytes_eq rule.id id) 
         (suc found.0, found.1, found.2, later found.0 found.1 found.2 differs found.3)
 
 -- If rule r is the only one with its id, the text that `clap` found for it was read from a value that its parser
--- accepts.
+-- accepts. `got` is the entry of this id (`got.0`), that the text is its value (`got.1`), that it has the id (`got.2`),
+-- and that its values passed (`got.3`).
 pub HasPassed-one_text : (c : Command) (m : ArgMatches) (k : ℕ) (r : Rule) (q : ValueParser) → IsParsedFrom c m
     → is_ready (shape_of c) ≡ true → HasReadyLeaves c → all_free (shape_of c).rules ≡ true → IsOnlyRule (shape_of c).rules k r q
     → (text : Text) → one_text (found_of m) r.id ≡ Some text → HasPassed q text

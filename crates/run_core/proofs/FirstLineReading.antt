@@ -187,7 +187,7 @@ module _ {I : Type 0} where
     ),
   )
 
-  -- Exit with a full buffer: the first line is too long for a password.
+  -- Exit with a full buffer: the first line is too long for a password, which is the third case of `IsDecided`.
   pub FindsLine-full_buffer : (old mid : Device I) (buffer : List ℕ) (filled turns left : ℕ)
       → IsReading old mid buffer filled turns left → buffer_size ≤ filled
       → (bytes : List ℕ) × Reads old mid bytes × FindsLine old mid bytes left buffer (Ok filled)

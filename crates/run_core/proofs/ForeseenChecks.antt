@@ -87,7 +87,7 @@ ComesTo-not_whole job stream parts field kept Misfit made is spells dead comes =
 ComesTo-not_whole job stream parts field kept (Audited finding) made is spells dead comes = absurd comes
 
 -- If the field of a line spells a setting but is not whole, and the line breaks no rule and is not costly, then its
--- answer is the verdict `no`.
+-- answer is the verdict `no`. The other cases of `IsPasswordAnswer`, that the line is refused or costly, are excluded.
 outcome-not_whole : (job : Job) (field : List ℕ) (kept : SettingValue) (line : List ℕ) (parts : Parts) → Spells field kept → ¬ IsWhole field kept
     → HasParts Check line parts → parts.field ≡ Some field → IsSound Check line → ¬ IsCostly Check job line
     → (number : ℕ) (stream : Stream) (answer : Answer) → IsPasswordAnswer Check job number line stream answer → answer.outcome ≡ Ok Misfit

@@ -44,6 +44,9 @@ ComesTo-without_budget : (job : Job) (parts : Parts) (stream : Stream) (outcome 
 ComesTo-without_budget job parts stream (Hashed hash) made = ((λ comes. comes), λ comes. comes)
 ComesTo-without_budget job parts stream outcome made = ((λ comes. comes), λ comes. comes)
 
+-- In the patterns on `IsPasswordAnswer`, `inl ..` is a line that is refused because it breaks a rule, `inr (inl ..)`
+-- one that is costly, and `inr (inr ..)` one with an outcome.
+
 module _ (kind : Kind) (job : Job) (number : ℕ) (line : List ℕ) (stream : Stream) (answer : Answer) where
   -- If a line is not costly, an answer to it is also an answer without the budget.
   IsPasswordAnswer-drop_budget : ¬ IsCostly kind job line → IsPasswordAnswer kind job number line stream answer → IsPasswordAnswer kind (without_budget job) number line stream answer

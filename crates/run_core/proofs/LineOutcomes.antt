@@ -53,7 +53,7 @@ abbrev parts_with : List ℕ → List ℕ → Option (List ℕ) → Parts
 parts_with name password field = record { name = name; field = field; password = password }
 
 -- A line that breaks no rule is costly if its cost, which depends on its field and the length of its password, is above
--- the budget.
+-- the budget. If the field holds a stored hash, `of.0.1.spells` is that the field spells the setting of that hash.
 IsCostly_from_parts : (kind : Kind) (job : Job) (line name password : List ℕ) (field : Option (List ℕ)) (stored : Option StoredField)
     → HasSoundParts kind line (parts_with name password field) → IsFieldOf field stored
     → IsAbove job.budget (field_cost job stored (length password)) → IsCostly kind job line
@@ -216,7 +216,7 @@ IsAnswer-audit Batch job number line stream parts field finding is taken fielded
 IsAnswer-audit Check job number line stream parts field finding is taken fielded finds = absurd cc
 
 -- The answer to a line that breaks no rule and is within the budget is its name and the outcome that `IsSettled` gives
--- for its password and its field.
+-- for its password and its field. This is the third case of `IsPasswordAnswer`, after a refusal and a costly line.
 IsPasswordAnswer_from_IsSettled : (kind : Kind) (job : Job) (number : ℕ) (line : List ℕ) (stream : Stream) (name password : List ℕ) (stored : Option StoredField)
     (hashings : List Hashing) (outcome : Outcome) → IsLine kind line name password stored
     → ¬ IsAbove job.budget (field_cost job stored (length password))

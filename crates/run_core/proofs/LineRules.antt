@@ -171,7 +171,8 @@ IsSound_from_IsEntry kind line parts entry right fault breaks = go fault breaks
 pub IsSound-no_field : (kind : Kind) (line : List ℕ) (parts : Parts) → IsEntry kind line parts → parts.field ≡ None → IsSound kind line
 IsSound-no_field kind line parts entry none = IsSound_from_IsEntry kind line parts entry (λ fault field unaudited some refused. cc)
 
--- A field that was read without an error, and has at most one reading, is not refused.
+-- A field that was read without an error, and has at most one reading, is not refused. A refused field is neither empty
+-- (`refused.0.0`) nor locked (`refused.0.1`).
 not_IsFieldRefused-read : (field : List ℕ) (stored : StoredField) → IsReadOneWay field → IsFieldReading field (Ok stored) → (fault : SettingFault) → IsFieldRefused field fault → ⊥
 unfolding IsReadOneWay
 not_IsFieldRefused-read field Empty one read fault refused = refused.0.0 read

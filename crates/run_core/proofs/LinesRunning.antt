@@ -3,7 +3,9 @@
 -- nothing else, and no count can overflow in the rest of the run. `IsRunning-start` shows that it holds at first, and
 -- `IsRunning-answered` that it still holds when one more answer is written. For each exit of the loop, a lemma shows
 -- `RunsLines`: reading stopped, scrypt could not allocate memory, an answer was written only in part, or all lines are
--- answered and both outputs were flushed, or a flush failed.
+-- answered and both outputs were flushed, or a flush failed. Where the run stops at an answer, the case of `EndsBy` is
+-- the third, `inr (inr (inl ..))`. In it, `inl` is a failed write, `inr (inl ..)` that no I/O call was left, and
+-- `inr (inr ..)` that scrypt could not allocate memory.
 use Rattle.std.proofs.Common.{◌≡◌, ℕ, ◌+◌, ◌*◌, ◌^◌, ◌≤◌, ◌<◌, ◌⊎◌, Bool, true, false, MatchBool, List, [], ◌∷◌, ◌++◌, length, Result, Ok, Err, refl, sym, ap, subst, ◌∙◌, add-zero, append-nil, arith, inl, inr}
 use Rattle.std.specs.Io.KnownBytes.{IsAtEnd}
 use Rattle.std.proofs.Math.Nat.{mul-le-mul_left}
