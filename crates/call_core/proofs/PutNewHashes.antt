@@ -89,7 +89,7 @@ not_three-false n other = grind arith
 
 -- ---- A hash that nothing refuses
 
--- A hash that the budget and the capacity allow is made, unless scrypt lacks memory. Then `lacks.0.2` is the report.
+-- A hash that the budget and the capacity allow is made, unless scrypt lacks memory. Then `lacks.0.2` says so.
 PutsHash-made : (password : List ℕ) (kept : SettingValue) (budget : ℕ) (lock old : List ℕ) (report : Report) (new : List ℕ)
     → nat_lt budget (cost kept (length password)) ≡ false → nat_lt (length (crypt password kept)) (length old) ≡ true
     → PutsHash password kept budget lock old report new

@@ -216,8 +216,8 @@ IsOnlyRule-parser_by_id (rule ∷ rules) own id q is = go (bytes_eq rule.id id) 
         (suc found.0, found.1, found.2, later found.0 found.1 found.2 differs found.3)
 
 -- If rule r is the only one with its id, the text that `clap` found for it was read from a value that its parser
--- accepts. `got` is the entry of this id (`got.0`), that the text is its value (`got.1`), that it has the id (`got.2`),
--- and that its values passed (`got.3`).
+-- accepts. `got` is the entry of this id (`got.0`), that it holds `x` (`got.1`), that it has the id (`got.2`), and that
+-- its values passed (`got.3`).
 pub HasPassed-one_text : (c : Command) (m : ArgMatches) (k : ℕ) (r : Rule) (q : ValueParser) → IsParsedFrom c m
     → is_ready (shape_of c) ≡ true → HasReadyLeaves c → all_free (shape_of c).rules ≡ true → IsOnlyRule (shape_of c).rules k r q
     → (text : Text) → one_text (found_of m) r.id ≡ Some text → HasPassed q text
