@@ -220,6 +220,7 @@ spent-le-budget password kept budget done hashed = go (nat_lt budget (cost kept 
       rw is (omega (arith, spent-work kept.scheme password kept.salt, low))
   go false e (inr refused) = rw (spent-refused_growth kept.scheme done refused) (omega arith)
 
+-- The report of a comparison has the work of the hash, whether the hashes are equal or not.
 work-compared : (equal : Bool) (outdated most : ℕ) (misses : Reason) (counts : Work)
     → (if equal then found outdated most counts else failed misses most counts).work ≡ counts
 work-compared true outdated most misses counts = refl
@@ -332,6 +333,7 @@ report-rounds_refused password field number rounds budget reason report is (inr 
 error-not_Dead : (reason : Reason) (report : Report) → reason ≢ Dead → report.error ≡ (reason_row reason).0 → report.error ≡ (reason_row Dead).0 → ⊥
 error-not_Dead reason report other is told = other (reason_row-unique reason Dead (sym is ∙ told))
 
+-- A login that makes the dummy hash does not report Dead, unless that was the refusal.
 Declines-not_Dead : (password : List ℕ) (kept : SettingValue) (budget : ℕ) (reason : Reason) (most : ℕ) (report : Report) → reason ≢ Dead
     → Declines password kept budget (refused reason most) report → report.error ≡ (reason_row Dead).0 → ⊥
 Declines-not_Dead password kept budget reason most report other declines told =
@@ -371,6 +373,7 @@ password_reason-not_Dead : (fault : PasswordFault) → password_reason fault ≢
 password_reason-not_Dead TooLong = λ same. absurd (cc same)
 password_reason-not_Dead HasNul = λ same. absurd (cc same)
 
+-- No error of a setting is reported as Dead.
 pub setting_reason-not_Dead : (fault : SettingFault) → setting_reason fault ≢ Dead
 setting_reason-not_Dead settings.TooLong = λ same. absurd (cc same)
 setting_reason-not_Dead settings.BadCharacter = λ same. absurd (cc same)

@@ -75,6 +75,7 @@ pub Ok-from_Spells : (text : List ℕ) (r : Result SettingValue SettingFault) �
 unfolding IsReadOneWay
 Ok-from_Spells text r spelled refused kept s = one_reading text r (Ok kept) (IsReading-from_clauses text r spelled refused) s
 
+-- Likewise, if a text is refused, the result is its error.
 pub Err-from_IsRefused : (text : List ℕ) (r : Result SettingValue SettingFault) → IfOk r (Spells text) → IfErr r (IsRefused text) → (fault : SettingFault) → IsRefused text fault → r ≡ Err fault
 unfolding IsReadOneWay
 Err-from_IsRefused text r spelled refused fault s = one_reading text r (Err fault) (IsReading-from_clauses text r spelled refused) s

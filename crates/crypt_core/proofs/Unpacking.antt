@@ -90,6 +90,7 @@ fills bound (places ∷ next ∷ groups) = eqb (length places) 3 && fills bound 
 unfoldable pub text_length : List (List ℕ) → ℕ
 text_length groups = sum_by (λ places. length places + 1) groups
 
+-- Unpacks a text of several groups, one group after another.
 pub Unpacks-from_fills : (bound : ℕ) (groups : List (List ℕ)) (text : List ℕ) → fills bound groups ≡ true → length text ≡ text_length groups
     → All (Contains alphabet) text → EndsBelow bound text → Unpacks groups text
 unfolding fills EndsBelow text_length

@@ -152,9 +152,11 @@ have_own_ids [] = true
 have_own_ids (rule ∷ rules) =
     lacks_id rule.id rules && (not (bytes_eq rule.id []) && (not (bytes_eq rule.id (codes "help")) && (not (bytes_eq rule.id (codes "version")) && have_own_ids rules)))
 
+-- Texts that `bytes_eq` tells apart differ.
 bytes_eq-false-ne : {a b : Text} → not (bytes_eq a b) ≡ true → a ≡ b → ⊥
 bytes_eq-false-ne {a} {b} differ same = true≢false (sym ((bytes_eq-Decides a b).1 same) ∙ not-true (bytes_eq a b) differ)
 
+-- If `lacks_id` holds of an id and the rules, no single rule has this id.
 lacks_id-each : (id : Text) (rules : List Rule) → lacks_id id rules ≡ true
     → (j : ℕ) (z : Rule) → j < length rules → bytes_eq (slice_index_or rules j z).id id ≡ true → ⊥
 lacks_id-each id [] all j z lt same = absurd (omega arith)

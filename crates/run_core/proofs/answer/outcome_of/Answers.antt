@@ -27,6 +27,7 @@ IsOk-never_refused : {A E : Type 0} (result : Result A E) (Refused : E → Type 
 IsOk-never_refused (Ok found) Refused refused never = search rules
 IsOk-never_refused (Err fault) Refused refused never = absurd (never fault refused)
 
+-- The same for a field: if it isn't refused, reading it succeeds.
 IsOk-field_not_refused : (field : List ℕ) (result : Result StoredField SettingFault) → IsFieldReading field result → ((fault : SettingFault) → ¬ IsFieldRefused field fault) → IsOk result
 IsOk-field_not_refused field (Ok found) reading never = search rules
 IsOk-field_not_refused field (Err fault) reading never = absurd (never fault reading)

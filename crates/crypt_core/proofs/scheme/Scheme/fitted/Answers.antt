@@ -12,6 +12,7 @@ IfSome-first : (P Q : Scheme → Type 0) (fewer : Option Scheme) → IfSome fewe
 IfSome-first P Q (Some s) both = both.0
 IfSome-first P Q None both = tt
 
+-- Likewise for the second of them.
 IfSome-second : (P Q : Scheme → Type 0) (fewer : Option Scheme) → IfSome fewer (λ s. P s × Q s) → IfSome fewer Q
 IfSome-second P Q (Some s) both = both.1
 IfSome-second P Q None both = tt
