@@ -42,7 +42,7 @@ IsRounds-from_SpellsRounds : (count : ℕ) (flag : Bool) (part after : List ℕ)
 IsRounds-from_SpellsRounds count true part after s = (omega (arith, s.3), λ e. absurd (cc e))
 IsRounds-from_SpellsRounds count false part after s = (omega (arith, s.1), λ e. s.1)
 
--- A scheme is in range if its cost part is spelled and it keeps a salt.
+-- A scheme whose cost part is spelled, and that keeps a salt, is in range.
 pub IsScheme-from_SpellsCost : (scheme : Scheme) (part after field salt : List ℕ) → SpellsCost scheme part after → KeepsSalt scheme field salt → IsScheme scheme
 IsScheme-from_SpellsCost Md5crypt part after field salt s k = tt
 IsScheme-from_SpellsCost (Shacrypt sha r) part after field salt s k = IsRounds-from_SpellsRounds r.count r.is_written part after s
@@ -92,7 +92,7 @@ canonical_length-le (Shacrypt sha r) salt c l =
     (omega (arith, l, salt_limit-sha_method sha, part), omega (arith, l, salt_limit-sha_method sha, part, packed_len-le (sha_method sha)))
 canonical_length-le (Scrypt n) salt c l = (omega (arith, length-scrypt_part n), omega (arith, length-scrypt_part n))
 
--- So the canonical form of a setting that some text spells has these limits.
+-- So the canonical form of a setting that some text spells is within these limits.
 pub setting_canonical_length-le : (kept : SettingValue) → IsSetting kept
     → (3 + (length (cost_part kept.scheme) + length kept.salt) ≤ canonical_limit) × (3 + (length (cost_part kept.scheme) + length kept.salt) + packed_len (method_of kept.scheme) < hash_limit)
 setting_canonical_length-le kept is_setting = let bounded = setting-in_range kept is_setting in canonical_length-le kept.scheme kept.salt bounded.0 bounded.1
@@ -140,7 +140,7 @@ differs a b = not (eqb a b)
 setting_byte_test : ℕ → Bool
 setting_byte_test b = nat_le 33 b && (nat_le b 126 && (differs 58 b && (differs 59 b && (differs 42 b && (differs 33 b && differs 92 b)))))
 
--- If this test is true, the two numbers differ.
+-- If `differs` is true of two numbers, they differ.
 differs-true : (a b : ℕ) → differs a b ≡ true → a ≡ b → ⊥
 unfolding differs
 differs-true a b h = eqb-false a b (not-true _ h)

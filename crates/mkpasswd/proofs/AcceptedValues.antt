@@ -88,7 +88,9 @@ first_text-All P how (v ∷ vs) text all is =
     (v, same, All-get_or P (v ∷ vs) 0 v (omega arith) all)
 
 -- If argument k is the only one with this id, the text of an entry with this id is read from a value that its parser
--- accepts.
+-- accepts. In `pass`, `.0` is on the values of the entry, `.3` says when an entry can be that of a group, and `.4` that
+-- an argument with the entry's id reads values in this way. `any` is an argument with this id: its place and itself
+-- (`.0`, `.1`), that it is there (`.2`, `.3`), its id (`.4.0`), and what holds of it (`.4.1`).
 HasPassed_from_EntryPasses : (c : Command) (m : ArgMatches) (p : IsParsedFrom c m) (k : ℕ) (id : Text) (q : ValueParser) → IsOnly c k id q → groups_of p.built ≡ []
     → (e : Entry) → e.0.now ≡ id → EntryPasses p.built e
     → (text : Text) → option_map (λ s. read_as e.1.reading s.now) (slice_get e.1.vals.items 0) ≡ Some text → HasPassed q text

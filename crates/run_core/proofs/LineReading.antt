@@ -94,7 +94,7 @@ module _ {I : Type 0} where
     held = moved.2 is.part is.held;
   }
 
-  -- The same, from the clauses of a `fetch` that found more bytes.
+  -- The same if a `fetch` found more bytes.
   pub IsSeeking-fetched : (start now new : Device I) (piece next fetched : List ℕ) (buffer new_buffer : LineBuffer) (lines : List (List ℕ)) (left : ℕ) (found : Bool) → found ≡ true
       → TakesLine piece next buffer new_buffer false → Reads now new fetched → FetchesPiece left now new fetched (Ok found)
       → IsSeeking start now piece buffer lines → IsSeeking start new fetched new_buffer lines

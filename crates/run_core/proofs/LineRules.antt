@@ -188,7 +188,8 @@ not_IsFieldRefused-read field (Hash stored) one read fault refused =
     let both : Ok stored.setting ≡ Err fault = one (Ok stored.setting) (Err fault) read.1.spells refused.1 in
     absurd cc
 
--- Nor does a line whose field was read without an error.
+-- A line whose field was read without an error breaks no rule, if it breaks none of the rules before those on the
+-- field.
 pub IsSound-field : (kind : Kind) (line : List ℕ) (parts : Parts) (field : List ℕ) (stored : StoredField) → IsEntry kind line parts → parts.field ≡ Some field
     → IsReadOneWay field → IsFieldReading field (Ok stored) → IsSound kind line
 IsSound-field kind line parts field stored entry is one read = IsSound_from_IsEntry kind line parts entry (λ fault other unaudited some refused.

@@ -50,8 +50,8 @@ returns-in-Ok-checkable-clause-replaced g c = λ none is.
     let told : c.is_outdated_by-is_outdated.result ≡ true = cc in
     rw told at (c.compare.ensures.same none).1
 
--- The clause `shut`: if the stored hash is dead, the error is not 0. Otherwise (`none`) the password would match the
--- stored hash, and no password matches a dead one.
+-- The clause `shut`: if the stored hash is dead (`dead`), the error is not 0. Otherwise (`none`) the password would
+-- match the stored hash, and no password matches a dead one.
 pub returns-in-Ok-checkable-clause-shut : goal.returns-in-Ok-checkable-clause-shut
 returns-in-Ok-checkable-clause-shut g c = λ dead none.
     let found = c.in-Ok-checkable.ensures.found in

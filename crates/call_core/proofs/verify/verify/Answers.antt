@@ -50,8 +50,8 @@ returns-in-Ok-checkable-clause-opens g c = λ opens.
       )
     ]
 
--- The clause `shut`: if the stored hash is dead, the error is not 0. Otherwise (`none`) the password would match the
--- stored hash, and no password matches a dead one.
+-- The clause `shut`: if the stored hash is dead (`dead`), the error is not 0. Otherwise (`none`) the password would
+-- match the stored hash, and no password matches a dead one.
 pub returns-in-Ok-checkable-clause-shut : goal.returns-in-Ok-checkable-clause-shut
 returns-in-Ok-checkable-clause-shut g c = λ dead none.
     let found = c.in-Ok-checkable.ensures.found in
