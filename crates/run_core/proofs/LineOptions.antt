@@ -68,7 +68,7 @@ module _ (kind : Kind) (job : Job) (number : ℕ) (line : List ℕ) (stream : St
   costly-refused costly (inr (inl (other, is))) = is
   costly-refused costly (inr (inr (sound, cheap, parts, cut, outcome, comes, is))) = absurd (cheap costly)
 
--- The budget of a job only refuses costly lines.
+-- A budget changes only the answers to costly lines.
 pub only_refuses : (kind : Kind) (job : Job) → kind ≢ Audit → OnlyRefuses kind job
 only_refuses Audit job unaudited = absurd (unaudited refl)
 only_refuses kind job unaudited = record {

@@ -32,7 +32,7 @@ returns-in-Err-made-clause-refused c =
     (IsMakeRefused-not_accepted c.args.method c.args.cost c.in-Err-made.fault c.in-Err-made.ensures.refused c.in-Err-made.ensures.accepted)
 
 -- The clause `each_refusal`: if the method, the rounds and the salt are refused for some error (`fault`, `refused`),
--- this is the error returned. Without a salt, that error is `Cost` (`alone`).
+-- this is the error returned. `alone` says the same of the case without a salt, where the error can only be `Cost`.
 pub returns-in-Err-made-clause-each_refusal : goal.returns-in-Err-made-clause-each_refusal
 returns-in-Err-made-clause-each_refusal c = λ fault refused.
     let alone : IsMakeRefused c.args.method c.args.cost None fault =
