@@ -134,6 +134,7 @@ not_IsJudged-refused : (reason : Reason) (most : ℕ) → reason ≢ reasons.Dea
 not_IsJudged-refused reason most other (inl none) = reason_row-nonzero reason none
 not_IsJudged-refused reason most other (inr dead) = other (reason_row-unique reason reasons.Dead dead)
 
+-- If the report of a standing is one on a hash that was judged, the standing isn't `OverBudget`.
 not_over_budget_from_IsJudged : (standing : Standing) (most : ℕ) → IsJudged (standing_report standing most) → standing ≢ standings.OverBudget
 not_over_budget_from_IsJudged standings.OverBudget most judged = absurd (not_IsJudged-refused reasons.OverBudget most (λ is. absurd (cc is)) judged)
 not_over_budget_from_IsJudged standings.Dead most judged = λ is. absurd (cc is)

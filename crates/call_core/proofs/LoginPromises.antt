@@ -16,7 +16,7 @@ use Rattle.call_core.specs.declared.report.Report.{Report}
 use Rattle.call_core.proofs.LoginReports as reports
 use Rattle.call_core.proofs.PolicyLimits.{limit_by-policy_limit, decoy_work-policy_limit, limit_in-allowance, limit_by-zero, IsLoginWork-zero_limit, not_Opens-zero_limit}
 
--- A call whose error isn't 0 returns 0.
+-- A call whose error isn't 0 returns 0, because by `Answers` it returns 1 or 0, and 1 only if the error is 0.
 Answers-zero : (result : ℤ) (report : Report) → Answers result report → (report.error ≢ 0) → result ≡ pos 0
 Answers-zero result report answers never = elim answers.0 [
   | inl one ↦ absurd (never (answers.1.0 one))

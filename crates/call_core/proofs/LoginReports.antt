@@ -2,9 +2,11 @@
 -- clause `logs_in` of `log_in`, one for each branch of its code. LoginPromises proves `JudgesStoredHash` and
 -- `TreatsFieldsAlike` from the other lemmas, for mkpasswd_login and web_login.
 --
--- Each proof goes through the cases of `LogsIn`: a refused password, a refused method or rounds, a field that can't be
--- checked and gets the dummy hash, and a hash that is compared. Two schemes that the same number and rounds make are
--- equal (`IsSchemeMade-unique`), so the scheme is the same in all cases.
+-- Each proof goes through the cases of `LogsIn`. In its patterns these are: `inr ..`, a refused password; `inl (_, inr
+-- (inl ..))`, an unknown method; `inl (_, inr (inr ..))`, refused rounds; `inl (_, inl (_, _, inr ..))`, a refused
+-- field, which gets the dummy hash; and `inl (_, inl (_, _, inl ..))`, a field that spells a setting, whose hash is
+-- compared if the budget allows that. Two schemes that the same number and rounds make are equal
+-- (`IsSchemeMade-unique`), so the scheme is the same in all cases.
 use Rattle.std.proofs.Common.{◌≡◌, ◌≤◌, ◌<◌, ◌⊎◌, ℕ, Bool, List, Err, length, nat_lt, if◌then◌else◌, false, true, ap, inl, inr, refl, sym, subst, arith, ◌∙◌, ◌≢◌}
 use Rattle.std.specs.Prelude.{IsTrue, MatchBool}
 use Rattle.std.specs.Str.{bytes_eq}
@@ -108,7 +110,8 @@ work-Declines password kept budget refusal report idle declines = go (nat_lt bud
   go false (inr (done, lacks, e)) =
       inr (subst (λ (w : Work). IsAfterRefusedGrowth no_work kept.scheme w) (sym (ap (λ (r : Report). r.work) e)) lacks)
 
--- A login that can't check the stored hash agrees with mkpasswd_verify, which reports the refusal.
+-- A login that can't check the stored hash agrees with mkpasswd_verify, which reports the refusal. If scrypt lacked
+-- memory for the dummy hash (`lacks`), the login reports OutOfMemory instead, which is the last case of `Agrees`.
 Agrees_from_Declines : (password : List ℕ) (scheme : Scheme) (budget : ℕ) (reason : Reason) (most : ℕ) (report : Report)
     → Declines password (decoy scheme) budget (refused reason most) report → Agrees scheme report (refused reason most)
 Agrees_from_Declines password scheme budget reason most report declines = (
@@ -194,7 +197,8 @@ spent-no_work Md5crypt = refl
 spent-no_work (Shacrypt sha rounds) = refl
 spent-no_work (Scrypt params) = omega arith
 
--- Allocations before one that failed cost nothing, since `spent` counts only bytes digested and mixed.
+-- Allocations before one that failed cost nothing, since `spent` counts only bytes digested and mixed. The three cases
+-- for scrypt say which of its three allocations failed.
 spent-refused_growth : (scheme : Scheme) (done : Work) → IsAfterRefusedGrowth no_work scheme done → spent scheme done ≡ 0
 spent-refused_growth (Scrypt params) done (inl e) = rw e (spent-no_work (Scrypt params))
 spent-refused_growth (Scrypt params) done (inr (inl e)) = rw e (spent-no_work (Scrypt params))
@@ -216,6 +220,7 @@ spent-le-budget password kept budget done hashed = go (nat_lt budget (cost kept 
       rw is (omega (arith, spent-work kept.scheme password kept.salt, low))
   go false e (inr refused) = rw (spent-refused_growth kept.scheme done refused) (omega arith)
 
+-- The report of a comparison has the work of the hash, whether the hashes are equal or not.
 work-compared : (equal : Bool) (outdated most : ℕ) (misses : Reason) (counts : Work)
     → (if equal then found outdated most counts else failed misses most counts).work ≡ counts
 work-compared true outdated most misses counts = refl
@@ -328,6 +333,7 @@ report-rounds_refused password field number rounds budget reason report is (inr 
 error-not_Dead : (reason : Reason) (report : Report) → reason ≢ Dead → report.error ≡ (reason_row reason).0 → report.error ≡ (reason_row Dead).0 → ⊥
 error-not_Dead reason report other is told = other (reason_row-unique reason Dead (sym is ∙ told))
 
+-- A login that makes the dummy hash does not report Dead, unless that was the refusal.
 Declines-not_Dead : (password : List ℕ) (kept : SettingValue) (budget : ℕ) (reason : Reason) (most : ℕ) (report : Report) → reason ≢ Dead
     → Declines password kept budget (refused reason most) report → report.error ≡ (reason_row Dead).0 → ⊥
 Declines-not_Dead password kept budget reason most report other declines told =
@@ -367,6 +373,7 @@ password_reason-not_Dead : (fault : PasswordFault) → password_reason fault ≢
 password_reason-not_Dead TooLong = λ same. absurd (cc same)
 password_reason-not_Dead HasNul = λ same. absurd (cc same)
 
+-- No error of a setting is reported as Dead.
 pub setting_reason-not_Dead : (fault : SettingFault) → setting_reason fault ≢ Dead
 setting_reason-not_Dead settings.TooLong = λ same. absurd (cc same)
 setting_reason-not_Dead settings.BadCharacter = λ same. absurd (cc same)
@@ -377,6 +384,7 @@ setting_reason-not_Dead settings.ScryptRange = λ same. absurd (cc same)
 setting_reason-not_Dead settings.AboveCeiling = λ same. absurd (cc same)
 setting_reason-not_Dead settings.BadSalt = λ same. absurd (cc same)
 
+-- A field is never refused as Dead, whether it is empty, locked or no setting.
 IsFieldRefusal-not_Dead : (field : List ℕ) (reason : Reason) → IsFieldRefusal field reason → reason ≢ Dead
 IsFieldRefusal-not_Dead field reason (inl (is, empty)) = λ same. absurd (cc (is, same))
 IsFieldRefusal-not_Dead field reason (inr (inl (is, locked))) = λ same. absurd (cc (is, same))

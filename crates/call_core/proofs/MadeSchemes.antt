@@ -12,7 +12,8 @@ use Rattle.crypt_core.specs.declared.scheme.Sha.TheVariants.{Sha256, Sha512}
 use Rattle.call_core.specs.Arguments.{IsSchemeMade, IsSchemeReading, OnScheme, TakesNewRounds, chosen_method}
 use Rattle.call_core.specs.declared.reason.Reason.{Reason}
 
--- If reading the scheme fails, and `Fails` holds of the reason, then `OnScheme` holds.
+-- If reading the scheme fails, and `Fails` holds of the reason, then `OnScheme` holds. Either the method is unknown, or
+-- it does not take the rounds.
 pub OnScheme-refused : (Takes : Method → ℕ → Type 0) (number rounds : ℕ) (reason : Reason) (Fails : Reason → Type 0) (Then : Scheme → Type 0)
     → IsSchemeReading Takes number rounds (Err reason) → Fails reason → OnScheme Takes number rounds Fails Then
 OnScheme-refused Takes number rounds reason Fails Then (inl (kind, none)) fails = inr (inl (none, subst Fails kind fails))

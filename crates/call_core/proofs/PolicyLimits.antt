@@ -158,7 +158,8 @@ IsLoginWork-zero_limit password field number rounds scheme done makes above (inr
     ∙ ap (λ (own : Scheme). new_cost own (length password)) one in
     no_work-zero_limit password kept done (omega (arith, price, above)) hashed
 
--- No password opens a stored hash within a limit of 0.
+-- No password opens a stored hash within a limit of 0: the stored hash spells a setting (`opens.1.1`), whose cost is
+-- positive, but it would be at most the limit (`opens.1.3`).
 pub not_Opens-zero_limit : (password stored : List ℕ) → Opens password stored 0 → ⊥
 not_Opens-zero_limit password stored opens =
     let some = Spells-cost_positive stored opens.1.0 (length password) opens.1.1 in

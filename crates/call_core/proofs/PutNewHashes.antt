@@ -1,6 +1,9 @@
 -- The effect of a call that makes a new hash, for the clauses of `new_hash_of` and `put_new_hash` and for the clause
 -- `writes` of mkpasswd_new. The proof splits on whether there are three random numbers. With them the hash is made and
 -- written as in PutHashes. Without them the call reports the first refusal, or NoRandomNumbers.
+--
+-- In the patterns on the cases, `inr ..` is a refused password, `inl (_, inr (inl ..))` an unknown method, `inl (_, inr
+-- (inr ..))` refused rounds, and `inl (_, inl ..)` a scheme with which the hash is made.
 use Rattle.std.proofs.Common.{◌≡◌, ◌≢◌, ◌==◌, ◌⊎◌, ap, nat_lt, refl, ℕ, List, [], ◌∷◌, length, Result, Ok, Err, false, inl, inr, arith}
 use Rattle.std.specs.Prelude.{MatchBool, MatchResult, Bool, true}
 use Rattle.crypt_core.specs.Crypt.{crypt}
@@ -86,7 +89,7 @@ not_three-false n other = grind arith
 
 -- ---- A hash that nothing refuses
 
--- A hash that the budget and the capacity allow is made, unless scrypt lacks memory.
+-- A hash that the budget and the capacity allow is made, unless scrypt lacks memory. Then `lacks.0.2` says so.
 PutsHash-made : (password : List ℕ) (kept : SettingValue) (budget : ℕ) (lock old : List ℕ) (report : Report) (new : List ℕ)
     → nat_lt budget (cost kept (length password)) ≡ false → nat_lt (length (crypt password kept)) (length old) ≡ true
     → PutsHash password kept budget lock old report new

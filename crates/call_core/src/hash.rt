@@ -46,7 +46,7 @@ pub fn put_hash<M: Memory>(
     put_hashed(hashed, token(text), out)
 }
 
-/// Writes the hash to `out`, or `lock` after an error, and returns the report.
+/// Writes the hash to `out`, or after an error `lock`, which is a [`token`], and returns the report.
 pub(crate) fn put_hashed(
     hashed: Result<(Hashed, Report), Report>,
     lock: &[u8],

@@ -11,6 +11,7 @@ use Rattle.crypt_core.specs.Schemes.{sha_method}
 use Rattle.crypt_core.specs.declared.scheme.Sha.{Sha}
 use Rattle.crypt_core.specs.declared.scheme.Sha.TheVariants.{Sha256, Sha512}
 
+-- A test that a computation shows to be true for the list of all methods is true for each method.
 pub each_method : (test : Method → Bool) → list_all test methods ≡ true → (m : Method) → test m ≡ true
 each_method test all Md5crypt = (and_parts (test Md5crypt) _ all).0
 each_method test all Sha256crypt = (and_parts (test Sha256crypt) _ (and_parts (test Md5crypt) _ all).1).0

@@ -54,7 +54,9 @@ KeepsSalt-from_KeepsField (Shacrypt Sha256 r) field salt c k = k
 KeepsSalt-from_KeepsField scheme field salt c k = k
 
 -- If a text has the length and the bytes of a setting, spells a scheme in range, and then has a salt that the scheme's
--- method keeps, it spells the setting with this scheme and this salt.
+-- method keeps, it spells the setting with this scheme and this salt. In `k`, `.0` is the field of the salt, `.1.0`
+-- what follows it in `after` (`.1.1`), `.1.2` that the field ends there, and `.2` that the method keeps this salt of
+-- it.
 pub Spells-from_SpellsScheme : (text : List ℕ) (scheme : Scheme) (after salt : List ℕ) → IsSettingText text → SpellsScheme text scheme after → IsScheme scheme → SpellsSalt (method_of scheme) after salt → Spells text (record { scheme = scheme; salt = salt })
 Spells-from_SpellsScheme text scheme after salt t s c k = record {
   short = t.short;
@@ -99,7 +101,8 @@ LacksCost-from_LacksCharacters text after e lacks = ((after, e), none)
     none Md5crypt z m s = absurd cc
     none (Shacrypt sha r) z m s = (sha_method-not_others sha).1 m
 
--- A text with the prefix of one method can't lack the cost part of another.
+-- A text with the prefix of one method can't lack the cost part of another, since `lacks.0` says that it begins with
+-- the other's prefix.
 other_prefix-not-LacksCost : (text : List ℕ) (a b : Method) (after : List ℕ) → (a ≡ b → ⊥) → text ≡ prefix a ++ after → LacksCost b text → ⊥
 other_prefix-not-LacksCost text a b after differ e lacks = differ (prefix_unique a b after lacks.0.0 (sym e ∙ lacks.0.1)).0
 

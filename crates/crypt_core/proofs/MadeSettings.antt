@@ -49,15 +49,18 @@ HasNumerals-from_IsAccepted params accepted =
     let low : params.log_n < 24 = lt_of_not-le (λ high. let power : 2 ^ 24 ≤ n = pow_mono high in omega arith) in
     (omega (arith, low), omega (arith, blocks, table, within), omega (arith, parts, within))
 
+-- The canonical cost part of a scheme in range spells the cost, before a salt of characters of the alphabet.
 SpellsCost-cost_part : (scheme : Scheme) (salt : List ℕ) → IsScheme scheme → All (Contains alphabet) salt → SpellsCost scheme (cost_part scheme) (salt ++ [])
 SpellsCost-cost_part Md5crypt salt c all = refl
 SpellsCost-cost_part (Shacrypt sha r) salt c all = SpellsRounds-cost_part sha r.count r.is_written (salt ++ []) c (λ flag. salt-not-begins_with_rounds salt all)
 SpellsCost-cost_part (Scrypt n) salt c all = let says = HasNumerals-from_IsAccepted n c in (refl, says.0, says.1, says.2)
 
+-- A scheme in range keeps all of such a salt, if it isn't longer than the method's limit.
 KeepsSalt-whole : (scheme : Scheme) (salt : List ℕ) → IsScheme scheme → length salt ≤ salt_limit (method_of scheme) → All (Contains alphabet) salt → KeepsSalt scheme salt salt
 KeepsSalt-whole (Scrypt n) salt c short all = (c, refl, (short, all))
 KeepsSalt-whole scheme salt c short all = sym (take_all (salt_limit (method_of scheme)) salt short)
 
+-- So this scheme and this salt are a setting that a text spells.
 pub IsSetting-from_parts : (scheme : Scheme) (salt : List ℕ) → IsScheme scheme → length salt ≤ salt_limit (method_of scheme) → All (Contains alphabet) salt → IsSetting (record { scheme = scheme; salt = salt })
 IsSetting-from_parts scheme salt c short all =
     let kept : SettingValue = record { scheme = scheme; salt = salt } in (
@@ -92,6 +95,7 @@ pub make_refused_length : (m : Method) (rounds : ℕ) (salt : List ℕ) → (len
 unfolding IsMakeRefused
 make_refused_length m rounds salt bad = inl (refl, bad)
 
+-- A salt of a length that the method accepts doesn't break the rule on the length.
 salt_length-breaks_no_rule : (m : Method) (salt : List ℕ) → 0 < length salt → length salt ≤ salt_limit m → (length salt ≡ 0) ⊎ (salt_limit m < length salt) → ⊥
 salt_length-breaks_no_rule m salt some short (inl none) = omega arith
 salt_length-breaks_no_rule m salt some short (inr long) = omega (arith, short, long)

@@ -72,10 +72,12 @@ length-quarter_round (a ∷ b ∷ c ∷ []) four = absurd (omega arith)
 length-quarter_round (a ∷ b ∷ c ∷ d ∷ []) four = refl
 length-quarter_round (a ∷ b ∷ c ∷ d ∷ e ∷ rest) four = absurd (omega arith)
 
+-- A row that is rotated keeps its length.
 length-begun_at : (place : ℕ) (row : List ℕ) → length (begun_at place row) ≡ length row
 length-begun_at place row =
     omega (arith, length-append (drop place row) (take place row), length-drop place row, length-take place row)
 
+-- A row round, a transposition and a double round of a matrix each give a matrix again.
 IsMatrix-row_round : (rows : List (List ℕ)) → IsMatrix rows → IsMatrix (row_round rows)
 unfolding row_round
 IsMatrix-row_round rows matrix =

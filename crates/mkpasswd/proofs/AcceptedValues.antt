@@ -42,7 +42,8 @@ is_free_arg-all_free [] e k d lt = absurd (omega arith)
 is_free_arg-all_free (x ∷ xs) e zero d lt = (and_parts _ _ e).0
 is_free_arg-all_free (x ∷ xs) e (suc k) d lt = is_free_arg-all_free xs (and_parts _ _ e).1 k d (omega arith)
 
--- A command all of whose rules are free has no exclusions, conflicts, overrides or groups.
+-- A command all of whose rules are free has no exclusions, conflicts, overrides or groups. `IsPlain` states this of
+-- each argument `k` below their number (`lt`); `d` stands for an argument beyond them, and is not used.
 IsPlain-all_free : (c : Command) → is_ready (shape_of c) ≡ true → HasReadyLeaves c → all_free (shape_of c).rules ≡ true → IsPlain c
 IsPlain-all_free c ready leaves free =
     let simple = ready_simple c ready leaves in
@@ -87,7 +88,9 @@ first_text-All P how (v ∷ vs) text all is =
     (v, same, All-get_or P (v ∷ vs) 0 v (omega arith) all)
 
 -- If argument k is the only one with this id, the text of an entry with this id is read from a value that its parser
--- accepts.
+-- accepts. In `pass`, `.0` is on the values of the entry, `.3` says when an entry can be that of a group, and `.4` that
+-- an argument with the entry's id reads values in this way. `any` is an argument with this id: its place and itself
+-- (`.0`, `.1`), that it is there (`.2`, `.3`), its id (`.4.0`), and what holds of it (`.4.1`).
 HasPassed_from_EntryPasses : (c : Command) (m : ArgMatches) (p : IsParsedFrom c m) (k : ℕ) (id : Text) (q : ValueParser) → IsOnly c k id q → groups_of p.built ≡ []
     → (e : Entry) → e.0.now ≡ id → EntryPasses p.built e
     → (text : Text) → option_map (λ s. read_as e.1.reading s.now) (slice_get e.1.vals.items 0) ≡ Some text → HasPassed q text
@@ -151,9 +154,11 @@ have_own_ids [] = true
 have_own_ids (rule ∷ rules) =
     lacks_id rule.id rules && (not (bytes_eq rule.id []) && (not (bytes_eq rule.id (codes "help")) && (not (bytes_eq rule.id (codes "version")) && have_own_ids rules)))
 
+-- Texts that `bytes_eq` tells apart differ.
 bytes_eq-false-ne : {a b : Text} → not (bytes_eq a b) ≡ true → a ≡ b → ⊥
 bytes_eq-false-ne {a} {b} differ same = true≢false (sym ((bytes_eq-Decides a b).1 same) ∙ not-true (bytes_eq a b) differ)
 
+-- If `lacks_id` holds of an id and the rules, no single rule has this id.
 lacks_id-each : (id : Text) (rules : List Rule) → lacks_id id rules ≡ true
     → (j : ℕ) (z : Rule) → j < length rules → bytes_eq (slice_index_or rules j z).id id ≡ true → ⊥
 lacks_id-each id [] all j z lt same = absurd (omega arith)
@@ -172,6 +177,7 @@ IsOnlyRule-parser_by_id (rule ∷ rules) own id q is = go (bytes_eq rule.id id) 
     alone : lacks_id rule.id rules ≡ true
     alone = (and_parts (lacks_id rule.id rules) _ own).0
 
+    -- The rule's id isn't empty, `help` or `version`, and the other rules have their own ids.
     differs_from : (not (bytes_eq rule.id []) ≡ true) × ((not (bytes_eq rule.id (codes "help")) ≡ true) × ((not (bytes_eq rule.id (codes "version")) ≡ true) × (have_own_ids rules ≡ true)))
     differs_from =
         let named = and_parts (not (bytes_eq rule.id [])) _ (and_parts (lacks_id rule.id rules) _ own).1 in
@@ -214,7 +220,8 @@ IsOnlyRule-parser_by_id (rule ∷ rules) own id q is = go (bytes_eq rule.id id) 
         (suc found.0, found.1, found.2, later found.0 found.1 found.2 differs found.3)
 
 -- If rule r is the only one with its id, the text that `clap` found for it was read from a value that its parser
--- accepts.
+-- accepts. `got` is the entry of this id (`got.0`), that it holds `x` (`got.1`), that it has the id (`got.2`), and that
+-- its values passed (`got.3`).
 pub HasPassed-one_text : (c : Command) (m : ArgMatches) (k : ℕ) (r : Rule) (q : ValueParser) → IsParsedFrom c m
     → is_ready (shape_of c) ≡ true → HasReadyLeaves c → all_free (shape_of c).rules ≡ true → IsOnlyRule (shape_of c).rules k r q
     → (text : Text) → one_text (found_of m) r.id ≡ Some text → HasPassed q text

@@ -43,6 +43,7 @@ command-have_own_ids = refl
 
 -- ---- What `clap` makes of some arguments
 
+-- Arguments with several options, a sign and leading zeros in the numbers.
 abbrev arguments : List Text
 arguments =
     codes "-m" ∷ codes "md5" ∷ codes "-R" ∷ codes "+07" ∷ codes "--work" ∷ codes "--budget" ∷ codes "+036" ∷ codes "--check" ∷ codes "--rehash" ∷ codes "x" ∷ codes "ab" ∷ []

@@ -74,6 +74,8 @@ walk_with_pending rows id values waiting position = record {
   stopped = None;
 }
 
+-- The states before the first word and after each of the five words, in order. `type_row` and `salt_row` are the rows
+-- that `clap` has made by then: of the type, and of the type and the salt.
 abbrev start : Walk
 start = walk_from nothing_held
 
@@ -98,6 +100,7 @@ salt_row name salt = used (option_rule (codes "salt") (Some 83)) (salt ∷ []) (
 abbrev after_password : Text → Text → Text → Walk
 after_password name salt password = walk_with_pending (salt_row name salt) (codes "password") (password ∷ []) idle 2
 
+-- Each of the five words takes `clap` from the state before it to the state after it.
 Goes-method_option : Goes start (codes "-m") after_method_option
 unfolding shape command clap_on_literals
 Goes-method_option = record { goes = refl; faultless = refl }
@@ -128,6 +131,7 @@ Goes-password name salt password p = record {
   faultless = rw (p.no_end, p.no_long, p.no_short);
 }
 
+-- The five words together take `clap` from the first state to the last one.
 GoesOn-hash_arguments : (name salt password : Text) → IsNoOption name → IsNoOption salt → IsNoOption password
     → GoesOn start (hash_arguments name salt password) (after_password name salt password)
 GoesOn-hash_arguments name salt password n s p =
@@ -158,9 +162,11 @@ pub record IsGiven (name salt password : Text) (rows : List Row) : Type 0 where
   pub work : is_set (codes "work") rows ≡ false
   pub modes : mode_count rows ≡ 1
 
+-- The rows that `clap` makes of the state after the password.
 abbrev rows_after_password : Text → Text → Text → List Row
 rows_after_password name salt password = finished shape.rules (after_password name salt password).held
 
+-- These rows hold the three texts and nothing else.
 IsGiven-rows_after_password : (name salt password : Text) → IsGiven name salt password (rows_after_password name salt password)
 unfolding shape command
 IsGiven-rows_after_password name salt password = record { type = refl; salt_is = refl; rounds = refl; word = refl; stdin = refl; batch = refl; check = refl; audit = refl; work = refl; modes = refl }

@@ -58,6 +58,7 @@ module _ (name salt password : Text) (method : Method) (named : method_named nam
       let own = method_named-unique is_job.maker.0 (rw found.type at is_job.maker.1) in
       text-password_answer method salt password job bytes stream (rw (found.audit, found.rounds, found.salt_is, own) at is_job.maker.2) (is_job.work ∙ found.work) bytes_is
 
+  -- A flag can't be both set and not set.
   not_set_and_unset : {set : Bool} → set ≡ false → set ≡ true → ⊥
   not_set_and_unset off on = true≢false (sym on ∙ off)
 

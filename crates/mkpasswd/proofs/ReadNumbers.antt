@@ -24,7 +24,9 @@ Parses bits text read = ParsesUnsigned bits 10 text read × ExplainsUnsignedErro
 abbrev pub number_of : Text → ℕ
 number_of text = digits_value 10 (without_leading_plus text)
 
--- If a text passed a parser that accepts only numbers below 2^bits, it is read as the number that its digits say.
+-- If a text passed a parser that accepts only numbers below 2^bits, it is read as the number that its digits say. By
+-- `ParsesUnsigned`, the first part of what `str::parse` promises, a number that is read is that number, and a text with
+-- such digits is read as a number, so the value can't be missing.
 ReadsOne-number_of : (bits : ℕ) (parser : ValueParser) → takes_below (2 ^ bits) parser ≡ true → (text : Text) → HasPassed parser text
     → (read : Option ℕ) → ReadsOne (Parses bits) text read → read ≡ Some (number_of text)
 ReadsOne-number_of bits (Signed (pos low) (pos high)) below text passed read reads =

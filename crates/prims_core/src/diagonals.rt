@@ -7,6 +7,9 @@
 //!
 //! In memory a block's words are in one of two orders: in row order, as in the standard, or in diagonal order, which is
 //! the order of the four vectors.
+//!
+//! Each function is always inlined: a call would pass a block through memory, and inlined code can keep its vectors in
+//! registers from one step to the next.
 
 ghost use Rattle.std.specs.Prelude.{◌≡◌, length};
 ghost use Rattle.std.specs.Simd.Lanes.{zip2};

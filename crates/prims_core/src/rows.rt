@@ -1,7 +1,8 @@
 //! The memory for the rows of scrypt's table (the V of RFC 7914, section 5), and the loop that fills it.
 //!
 //! The memory is a vector with enough capacity, or words that a caller lends. Blocks are appended to it, so the memory
-//! needs no initialization, which would take as long as wiping it.
+//! needs no initialization, which would take as long as wiping it. `push_block` is always inlined, since it runs in the
+//! loop of a mixing, once for each block.
 
 ghost use Rattle.std.specs.Prelude.{◌≡◌, ℕ, ◌+◌, ◌*◌, ◌%◌, ◌^◌, ◌<◌, ◌≤◌, List, [], ◌++◌, length, take, vec_capacity};
 ghost use Rattle.std.specs.Fn.{iterate};

@@ -39,6 +39,7 @@ append-nil-parts : (front back : List Hashing) → front ++ back ≡ [] → (fro
 append-nil-parts [] back is = (refl, is)
 append-nil-parts (made ∷ front) back is = absurd cc
 
+-- If the answers have no hashes, the last one has none.
 hashings-last-nil : (done : List Answer) (next : Answer) → hashings_of (done ++ next ∷ []) ≡ [] → next.hashings ≡ []
 hashings-last-nil done next none =
     let parts = append-nil-parts (hashings_of done) (hashings_of (next ∷ [])) (sym (flat_map-append _ done (next ∷ [])) ∙ none) in
@@ -58,6 +59,7 @@ module _ {I O E : Type 0} where
     pub hashes_none : new.counts ≡ old.counts
     pub allocates_none : result ≢ Err OutOfMemory
 
+  -- A run that computed no hashes and did not end for a lack of memory hashes nothing.
   HashesNothing_from_IsAfter : (made : List Hashing) (old new : RunState I O E) (result : Result Tally RunFault) → made ≡ [] → IsAfter made old new → result ≢ Err OutOfMemory
       → HashesNothing old new result
   HashesNothing_from_IsAfter made old new result none after other = record {

@@ -87,6 +87,7 @@ IsCutAtFeed_from_position xs at found =
 
 -- ---- the lines of an input
 
+-- Only the last part is dropped if it is empty, so a part before others stays.
 without_empty_end-cons : (part : List ℕ) (parts : List (List ℕ)) → 0 < length parts → without_empty_end (part ∷ parts) ≡ part ∷ without_empty_end parts
 without_empty_end-cons part [] some = absurd (omega (arith, some))
 without_empty_end-cons [] (next ∷ parts) some = refl

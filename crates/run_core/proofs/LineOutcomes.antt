@@ -49,11 +49,12 @@ pub not_IsAbove-zero : (budget : Option ℕ) → ¬ IsAbove budget 0
 not_IsAbove-zero None above = above
 not_IsAbove-zero (Some budget) above = omega arith
 
+-- parts_with name password field: the parts of a line.
 abbrev parts_with : List ℕ → List ℕ → Option (List ℕ) → Parts
 parts_with name password field = record { name = name; field = field; password = password }
 
 -- A line that breaks no rule is costly if its cost, which depends on its field and the length of its password, is above
--- the budget.
+-- the budget. If the field holds a stored hash, `of.0.1.spells` is that the field spells the setting of that hash.
 IsCostly_from_parts : (kind : Kind) (job : Job) (line name password : List ℕ) (field : Option (List ℕ)) (stored : Option StoredField)
     → HasSoundParts kind line (parts_with name password field) → IsFieldOf field stored
     → IsAbove job.budget (field_cost job stored (length password)) → IsCostly kind job line
@@ -78,6 +79,7 @@ IsCostly_from_parts kind job line name password (Some field) (Some (fields.Hash 
 IsCostly_from_parts kind job line name password None (Some stored) taken of above = absurd of
 IsCostly_from_parts kind job line name password (Some field) None taken of above = absurd of
 
+-- The same for a line whose parts are known (`IsLine`).
 IsCostly_from_line : (kind : Kind) (job : Job) (line name password : List ℕ) (stored : Option StoredField) → IsLine kind line name password stored
     → IsAbove job.budget (field_cost job stored (length password)) → IsCostly kind job line
 IsCostly_from_line kind job line name password stored is above = IsCostly_from_parts kind job line name password is.field stored is.taken is.field_of above
@@ -124,10 +126,12 @@ prefix-first_byte : (method : Method) (rest : List ℕ) → slice_index (prefix 
 prefix-first_byte Md5crypt rest = refl
 prefix-first_byte method rest = refl
 
+-- A field that spells a setting begins with `$`, so it is neither empty nor locked.
 Spells-first_byte : (field : List ℕ) (kept : SettingValue) → Spells field kept → slice_index field 0 ≡ 36
 Spells-first_byte field kept spells =
     ap (λ (text : List ℕ). slice_index text 0) spells.scheme.1 ∙ prefix-first_byte (method_of kept.scheme) (spells.scheme.0 ++ (spells.field ++ spells.rest))
 
+-- A field that begins with a text has the first byte of that text.
 BeginsWith-first_byte : (field front : List ℕ) (first : ℕ) → ((rest : List ℕ) → slice_index (front ++ rest) 0 ≡ first) → BeginsWith field front → slice_index field 0 ≡ first
 BeginsWith-first_byte field front first starts begins = ap (λ (text : List ℕ). slice_index text 0) begins.1 ∙ starts begins.0
 
@@ -155,6 +159,7 @@ not_IsCostly-unstored kind job line parts field has is unstored costly =
 
 -- ---- the outcome of a line
 
+-- What a check of the stored hash comes to is the outcome of the line that has this hash in its field.
 ComesTo_from_IsChecked : (job : Job) (stream : Stream) (name password field : List ℕ) (stored : StoredHash) (hashings : List Hashing) (outcome : Outcome)
     → stored.text ≡ field → Spells field stored.setting → IsChecked job password stored stream hashings outcome
     → ComesTo job (parts_with name password (Some field)) stream outcome hashings
@@ -216,7 +221,7 @@ IsAnswer-audit Batch job number line stream parts field finding is taken fielded
 IsAnswer-audit Check job number line stream parts field finding is taken fielded finds = absurd cc
 
 -- The answer to a line that breaks no rule and is within the budget is its name and the outcome that `IsSettled` gives
--- for its password and its field.
+-- for its password and its field. This is the third case of `IsPasswordAnswer`, after a refusal and a costly line.
 IsPasswordAnswer_from_IsSettled : (kind : Kind) (job : Job) (number : ℕ) (line : List ℕ) (stream : Stream) (name password : List ℕ) (stored : Option StoredField)
     (hashings : List Hashing) (outcome : Outcome) → IsLine kind line name password stored
     → ¬ IsAbove job.budget (field_cost job stored (length password))

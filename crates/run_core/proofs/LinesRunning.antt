@@ -3,7 +3,9 @@
 -- nothing else, and no count can overflow in the rest of the run. `IsRunning-start` shows that it holds at first, and
 -- `IsRunning-answered` that it still holds when one more answer is written. For each exit of the loop, a lemma shows
 -- `RunsLines`: reading stopped, scrypt could not allocate memory, an answer was written only in part, or all lines are
--- answered and both outputs were flushed, or a flush failed.
+-- answered and both outputs were flushed, or a flush failed. Where the run stops at an answer, the case of `EndsBy` is
+-- the third, `inr (inr (inl ..))`. In it, `inl` is a failed write, `inr (inl ..)` that no I/O call was left, and
+-- `inr (inr ..)` that scrypt could not allocate memory.
 use Rattle.std.proofs.Common.{◌≡◌, ℕ, ◌+◌, ◌*◌, ◌^◌, ◌≤◌, ◌<◌, ◌⊎◌, Bool, true, false, MatchBool, List, [], ◌∷◌, ◌++◌, length, Result, Ok, Err, refl, sym, ap, subst, ◌∙◌, add-zero, append-nil, arith, inl, inr}
 use Rattle.std.specs.Io.KnownBytes.{IsAtEnd}
 use Rattle.std.proofs.Math.Nat.{mul-le-mul_left}
@@ -86,6 +88,7 @@ MovesBytes-at_end : {I : Type 0} (at_end : Bool) (start now : Device I) → Move
 MovesBytes-at_end true start now moves = moves
 MovesBytes-at_end false start now moves = record { idle = omega (arith, moves.idle); calls = omega (arith, moves.calls) }
 
+-- A read that stops a run adds at most one failure.
 StopsFetching-failures : {I : Type 0} (left : ℕ) (start now : Device I) (fault : RunFault) → StopsFetching left start now fault → now.failures ≤ start.failures + 1
 StopsFetching-failures left start now fault (moves, inl stops) = omega (arith, stops.1)
 StopsFetching-failures left start now fault (moves, inr stops) = omega (arith, stops.1)
@@ -136,6 +139,7 @@ IsAt-cases : {I : Type 0} (now : Device I) (piece : List ℕ) (at_end : Bool) (l
 IsAt-cases now piece false lines bytes at = inl (piece, at.0, at.1)
 IsAt-cases now piece true lines bytes at = inr at
 
+-- The full answer has the outcome that `answer_line` returned.
 pub outcome_from_Renders : (job : Job) (number : ℕ) (value : Result Answered LineFault) (next : Answer) → Renders job number value next → next.outcome ≡ outcome_of value
 outcome_from_Renders job number (Ok answered) next renders = ap (λ (a : Answer). a.outcome) renders.0
 outcome_from_Renders job number (Err fault) next renders = ap (λ (a : Answer). a.outcome) renders
@@ -263,6 +267,7 @@ module _ {I O E : Type 0} {turns : ℕ} {kind : Kind} {job : Job} {start old : R
         },
       )
 
+  -- Flushing both outputs leaves the run within its I/O calls.
   IsWithinTurns-flushed : (next : LineReader) (out : Device O) (faults : Device E) {A : Type 0} (result : Result A RunFault) → HasGiven start.input input next running.lines
       → FinishesBoth old.out old.faults out faults result → IsWithinTurns turns start (run_state input out faults old.stream old.counts)
   IsWithinTurns-flushed next out faults result given flushes =

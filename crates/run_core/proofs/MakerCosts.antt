@@ -34,8 +34,8 @@ not_accepted-BreaksMake m rounds takes = (λ e. absurd (cc e), λ none. absurd (
 pub IsMakeRefused-not_accepted : (m : Method) (rounds : ℕ) (f : MakeFault) → f ≡ Cost → (false ≡ true ↔ TakesRounds m rounds) → IsMakeRefused m rounds None f
 IsMakeRefused-not_accepted m rounds f is takes = subst (IsMakeRefused m rounds None) (sym is) (IsMakeRefused-Cost m rounds (λ t. cc (takes.1 t)))
 
--- ---- the cost of hashing with a setting of the maker
-
+-- Hashing with a setting of the maker has the cost `made_cost_by`, whatever random numbers the setting's salt is made
+-- from.
 pub cost-setting_by : (recipe : Recipe) (numbers : List ℕ) (password : ℕ) → cost (setting_by recipe numbers) password ≡ made_cost_by recipe password
 cost-setting_by recipe numbers password = go recipe.salt where
   go : (salt : Option (List ℕ)) → cost (setting_by (record recipe { salt = salt }) numbers) password ≡ made_cost_by (record recipe { salt = salt }) password

@@ -2,6 +2,11 @@
 -- shows `EndsOne` from the clauses of the steps before it. The exits are, in order: there is no password, scrypt could
 -- not allocate memory, writing stopped, both outputs were flushed, or a flush failed. `EndsOne_from_EndsPassword`
 -- covers both sources of the password, so the lemmas after it need not know where the password came from.
+--
+-- The cases of `EndsPassword` are those of `EndsBy`, in order: the hash was written but a flush failed (`inl`), reading
+-- stopped (`inr (inl ..)`), the run stopped at the answer (`inr (inr (inl ..))`), or the password was refused (`inr
+-- (inr (inr ..))`). The run stops at the answer in one of three cases: a write failed, no I/O call was left, or scrypt
+-- could not allocate memory.
 use Rattle.std.proofs.Common.{◌≡◌, ℕ, ◌+◌, ◌≤◌, List, [], ◌∷◌, length, Result, Ok, Err, refl, sym, ap, subst, ◌∙◌, add-zero, append-nil, arith, inl, inr}
 use Rattle.std.specs.Prelude.{⊤}
 use Rattle.rand_core.specs.Stream.{Stream}

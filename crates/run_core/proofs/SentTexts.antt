@@ -115,6 +115,7 @@ abbrev pub as_tally : {A : Type 0} → Result A RunFault → Result Tally RunFau
 as_tally (Ok done) = Ok (tally_of [])
 as_tally (Err fault) = Err fault
 
+-- `Shows` does not depend on what a successful result holds.
 pub Shows-as_tally : {A T : Type 0} (turns : ℕ) (old new : Device T) (text : List ℕ) (result : Result A RunFault)
     → Shows turns old new text result → Shows turns old new text (as_tally result)
 Shows-as_tally turns old new text (Ok done) shows = shows

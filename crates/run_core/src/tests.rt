@@ -120,6 +120,7 @@ fn devices<'a>(
     input: &'a [u8],
     (reads, writes): (usize, usize),
 ) -> Given<'a> {
+    // The prover needs this bound, which `MemoryReader::new` requires.
     assert!(rt; reads > 0);
     Given {
         reader: MemoryReader::new(alloc, input, reads),
@@ -228,6 +229,7 @@ fn left_by<'a>(
     asked: Asked<'_>,
     given: Given<'a>,
 ) -> Result<Left<'a>, Fail> {
+    // The prover needs this bound, which `run_on` requires.
     assert!(rt; given.turns <= 1 << 40);
     let Ok(maker) = Maker::new(asked.method, asked.cost, asked.salt) else {
         panic!(rt; "no setting");

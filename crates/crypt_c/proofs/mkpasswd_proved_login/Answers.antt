@@ -6,6 +6,8 @@ use Rattle.call_core.specs.Limits.{limit_of}
 use Rattle.call_core.proofs.LoginPromises.{JudgesStoredHash_from_LogsIn, TreatsFieldsAlike_from_LogsIn}
 use Rattle.crypt_c.proofs.mkpasswd_proved_login.Goals as goal
 
+-- The clause `opens`: if the method and the rounds make a scheme (`scheme`, `made`) and the password opens the stored
+-- hash within the limit (`opens`), the result is 1, or the error is `OutOfMemory`.
 pub returns-clause-opens : goal.returns-clause-opens
 returns-clause-opens c = λ scheme made opens.
     let opened = rw c.of.ensures at c.log_in.ensures.opens in

@@ -15,16 +15,21 @@ use Rattle.crypt_c.proofs.mkpasswd_proved_new_from.Goals as goal
 pub returns-clause-hashes : goal.returns-clause-hashes
 returns-clause-hashes c = rw c.tell.ensures.told (rw c.of.ensures at c.put_new_hash.ensures.hashes)
 
+-- The clause `then_current`: if the result is 1 (`one`), the method and the rounds don't outdate the new hash.
 pub returns-clause-then_current : goal.returns-clause-then_current
 returns-clause-then_current c = λ one.
     let positive : (c.put_new_hash.result).error ≡ 0 = c.tell.ensures.answers.1.0 (search (rules, one)) in
     rw c.tell.ensures.told (c.put_new_hash.ensures.current positive)
 
+-- The clause `locked`: if the result is 0 (`zero`), `out` gets `*0` instead of a hash.
 pub returns-clause-locked : goal.returns-clause-locked
 returns-clause-locked c = λ zero. c.put_new_hash.ensures.locked (λ positive.
     let none : c.tell.result ≡ pos 0 = search (rules, zero) in
     absurd (cc (c.tell.ensures.answers.1.1 positive, none)))
 
+-- The clause `writes`: the method and the rounds make a scheme (`scheme`, `made`), the budget means the policy's limit
+-- (`twice`), the password is valid (`is`), its new hash is within that limit (`within`), there are three random numbers
+-- (`three`), and `out` has room for the hash (`room`). Then the result is 1, or the error is `OutOfMemory`.
 pub returns-clause-writes : goal.returns-clause-writes
 returns-clause-writes c = λ scheme made twice is within three room.
     let len = length c.args.password.now in

@@ -6,6 +6,8 @@ use Rattle.crypt_c.proofs.mkpasswd_proved_verify.Goals as goal
 pub returns-clause-verifies : goal.returns-clause-verifies
 returns-clause-verifies c = rw c.tell.ensures.told c.verify.ensures.verifies
 
+-- The clause `opens`: if the password opens the stored hash within the budget (`opens`), the result is 1, or the error
+-- is `OutOfMemory`.
 pub returns-clause-opens : goal.returns-clause-opens
 returns-clause-opens c = λ opens. elim (c.verify.ensures.opens opens) [
   | inl none ↦ inl (search (rules, c.tell.ensures.answers.1.1 none))

@@ -6,6 +6,8 @@ use Rattle.crypt_web.proofs.web_hash.Goals as goal
 pub returns-clause-hashes : goal.returns-clause-hashes
 returns-clause-hashes c = rw c.tell.ensures.told c.put_hash-told.ensures.hashes
 
+-- The clause `enough`: if `need` is what the call needs (`is`), and the lent `words` and `bytes` are at least as long,
+-- the error is not `OutOfMemory`.
 pub returns-clause-enough : goal.returns-clause-enough
 returns-clause-enough c = λ need is words bytes.
     rw c.tell.ensures.told (c.put_hash-told.ensures.enough (λ kept hashes.

@@ -7,6 +7,8 @@ use Rattle.call_core.specs.Limits.{limit_of}
 use Rattle.call_core.proofs.LoginPromises.{JudgesStoredHash_from_LogsIn, TreatsFieldsAlike_from_LogsIn}
 use Rattle.crypt_web.proofs.web_login.Goals as goal
 
+-- The clause `opens`: if the method and the rounds make a scheme (`scheme`, `made`) and the password opens the stored
+-- hash within the limit (`opens`), the result is 1, or the error is `OutOfMemory`.
 pub returns-clause-opens : goal.returns-clause-opens
 returns-clause-opens c = λ scheme made opens.
     let opened = rw c.of.ensures at c.log_in-told.ensures.opens in
@@ -15,6 +17,8 @@ returns-clause-opens c = λ scheme made opens.
       | inr lacks ↦ inr (rw c.tell.ensures.told lacks.0)
     ]
 
+-- The clause `enough`: if `need` is what the call needs (`is`), and the lent `words` and `bytes` are at least as long,
+-- the error is not `OutOfMemory`.
 pub returns-clause-enough : goal.returns-clause-enough
 returns-clause-enough c = λ need is words bytes.
     let enough = rw c.of.ensures at c.log_in-told.ensures.enough in

@@ -7,12 +7,16 @@ use Rattle.crypt_web.proofs.web_verify.Goals as goal
 pub returns-clause-verifies : goal.returns-clause-verifies
 returns-clause-verifies c = rw c.tell.ensures.told c.verify-told.ensures.verifies
 
+-- The clause `opens`: if the password opens the stored hash within the budget (`opens`), the result is 1, or the error
+-- is `OutOfMemory`.
 pub returns-clause-opens : goal.returns-clause-opens
 returns-clause-opens c = λ opens. elim (c.verify-told.ensures.opens opens) [
   | inl none ↦ inl (search (rules, c.tell.ensures.answers.1.1 none))
   | inr lacks ↦ inr (rw c.tell.ensures.told lacks.0)
 ]
 
+-- The clause `enough`: if `need` is what the call needs (`is`), and the lent `words` and `bytes` are at least as long,
+-- the error is not `OutOfMemory`.
 pub returns-clause-enough : goal.returns-clause-enough
 returns-clause-enough c = λ need is words bytes.
     rw c.tell.ensures.told (c.verify-told.ensures.enough (λ kept hashes.

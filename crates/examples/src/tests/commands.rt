@@ -428,6 +428,7 @@ fn turns(rt: HostRuntime) -> Result<(), Fail> {
         (ONE, "", 1, 0, HASH, ""),
     ];
     for &(words, input, turns, status, out, faults) in rows {
+        // The prover needs a bound: `left_within` requires at most 2^40 I/O calls.
         assert!(rt; turns <= 1);
         let left = left_within(rt.alloc(), words, input.as_bytes(), turns)?;
         left.want(&rt, input, status, out, faults);

@@ -39,6 +39,7 @@ fn bounds(rt: HostRuntime) -> Result<(), Fail> {
             [66, 6884, 32768, 16777216, 3072],
         ),
     ] {
+        // The prover needs this bound, which `bound` requires.
         assert!(rt; length <= 1024);
         let work = bound(&Setting::read(text.as_bytes())?, length);
         let told = [
@@ -73,6 +74,7 @@ fn costs(rt: HostRuntime) -> Result<(), Fail> {
         ("$7$86....E....NaCl", 8, 33656996),
         ("$7$C6..../....SodiumChloride", 13, 33561316),
     ] {
+        // The prover needs this bound, which `cost` requires.
         assert!(rt; length <= 1024);
         let setting = Setting::read(text.as_bytes())?;
         want(&rt, cost(&setting, length), wanted, text);

@@ -1,4 +1,5 @@
-//! Tests of HMAC, PBKDF2 and scrypt, and of the work that each counts.
+//! Tests of HMAC, PBKDF2 and scrypt, and of the work that each counts. Asserts of sizes and rounds give the prover what
+//! the functions called after them require, such as room in the meter.
 
 use super::{counts, want};
 use kdf_core::hmac::HmacKey;
@@ -251,10 +252,9 @@ struct Row {
     wanted: &'static str,
 }
 
-// The first three are from RFC 7914, section 12, whose fourth vector needs a table of 1 GiB, too much for a test. The
-// fourth is the first with half of its bytes. The others come from Python's `hashlib`: passwords of 64 and 65 bytes, as
-// HMAC digests a key of more than 64 bytes; N of 2; a result that ends in a part of a block; no bytes; many parts; and
-// a part of many blocks.
+// The first three are from RFC 7914, section 12, whose fourth vector needs a table of 1 GiB. The fourth is the first
+// with half of its bytes. The others come from Python's `hashlib`: passwords of 64 and 65 bytes, as HMAC digests a key
+// above 64 bytes; N of 2; a result that ends in a part of a block; no bytes; many parts; a part of many blocks.
 const ROWS: &[Row] = &[
     Row {
         password: b"",

@@ -165,6 +165,7 @@ fn rising_blocks(alloc: Global, r: usize) -> Result<Vec<u32>, AllocError>
 
 // Asserts the digest of the words after the 2r blocks of `rising_blocks` are mixed.
 fn want_mixed(rt: &impl Abort, alloc: Global, r: usize, wanted: &str) -> Result<(), Fail> {
+    // The prover needs these bounds: `rising_blocks` requires the upper one, and `block_mix` the lower one.
     assert!(rt; 1 <= r && r <= 6);
     let words = rising_blocks(alloc, r)?;
     let mut mixed = vec![in alloc; 7; 32 * r]?;

@@ -1,6 +1,6 @@
 -- The limit that `report_limit` reports is the one that a login and a new hash use for every password up to the
 -- reported length (clause `used`). A new hash of each such password is within the limit, so `limit_in-limit_bytes`
--- applies.
+-- applies. The error is 0 (`positive`), and `len` is at most that length (`short`).
 use Rattle.std.proofs.Common.{◌≡◌, ◌≤◌, ap, arith}
 use Rattle.crypt_core.specs.Passwords.{password_limit}
 use Rattle.call_core.specs.Limits.{limit_bytes, new_cost}

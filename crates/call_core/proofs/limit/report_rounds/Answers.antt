@@ -1,5 +1,6 @@
 -- What holds of the rounds that `report_rounds` reports (clause `fitted`): they make the fitted scheme again, the
--- reported cost is that of a new hash with it, and the cost is within the limit. FittedSchemes has the lemmas.
+-- reported cost is that of a new hash with it, and the cost is within the limit. `scheme` is the one that the method
+-- and the rounds make (`makes`), and the error is 0 (`positive`). FittedSchemes has the lemmas.
 use Rattle.std.proofs.Common.{◌≡◌, ◌≤◌, Some, ap, sym}
 use Rattle.std.specs.Prelude.{false}
 use Rattle.crypt_core.specs.MadeSettings.{rounds_of}

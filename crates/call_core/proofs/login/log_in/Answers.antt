@@ -2,6 +2,10 @@
 -- checked (`in-Err-checkable`), and after a comparison (`in-Ok-checkable`). LoginReports has the lemmas for `logs_in`.
 -- A field spells one setting, and a method and rounds make one scheme, so those of a clause are the ones that the call
 -- read. Where a clause assumes that a hash can be checked, `admits` excludes the first two returns.
+--
+-- The parts of the hypothesis `opens`, that the password opens the stored hash, are: `.0`, the password is valid;
+-- `.1.0`, the setting; `.1.1`, the field spells it; `.1.2`, the hash of the password is the stored one; `.1.3`, its
+-- cost is within the limit.
 use Rattle.std.proofs.Common.{◌≡◌, ◌≤◌, ◌∙◌, length, true, ap, arith, inl, inr, refl, sym}
 use Rattle.crypt_core.specs.Crypt.{allocates}
 use Rattle.crypt_core.specs.MadeSettings.{TakesRounds}
@@ -34,6 +38,8 @@ returns-in-Ok-checkable-clause-logs_in g c =
     rw (← c.in-Ok.ensures.limit) (LogsIn-compared c.args.password.now c.args.field.now c.args.method c.args.rounds (c.in-Ok.request).limit scheme kept c.miss_of.result _ password.1 c.in-Ok.ensures.scheme
     found.spells (omega (arith, within)) (rw found.is_text at c.miss_of.ensures.miss) (rw (password.0, found.is_text, outdated) at c.compare.ensures.compares))
 
+-- The clause `replaced`: if the error is 0 (`none`) and a new hash would replace the stored one (`is`), the report's
+-- `outdated` is 1.
 pub returns-in-Ok-checkable-clause-replaced : goal.returns-in-Ok-checkable-clause-replaced
 returns-in-Ok-checkable-clause-replaced g c = λ none is.
     let kept = (c.in-Ok-checkable.stored).setting in
@@ -44,12 +50,17 @@ returns-in-Ok-checkable-clause-replaced g c = λ none is.
     let told : c.is_outdated_by-is_outdated.result ≡ true = cc in
     rw told at (c.compare.ensures.same none).1
 
+-- The clause `shut`: if the stored hash is dead (`dead`), the error is not 0. Otherwise (`none`) the password would
+-- match the stored hash, and no password matches a dead one.
 pub returns-in-Ok-checkable-clause-shut : goal.returns-in-Ok-checkable-clause-shut
 returns-in-Ok-checkable-clause-shut g c = λ dead none.
     let found = c.in-Ok-checkable.ensures.found in
     not_fits-IsDead (c.in-Ok.request).password c.args.field.now (c.in-Ok-checkable.stored).setting found.spells
     (rw found.is_text at (c.compare.ensures.same none).0) dead
 
+-- The clause `dead`: the method and the rounds make the scheme `scheme` (`made`), the password is valid (`is`), and the
+-- stored hash has the setting `kept` (`spells`), is not whole (`dead`) and costs at most the limit (`low`). Then the
+-- error is `Dead`, with the cost and the work of the check, or scrypt lacked memory.
 pub returns-in-Err-clause-dead : goal.returns-in-Err-clause-dead
 returns-in-Err-clause-dead g c = λ scheme kept made is spells dead low. absurd (cc (c.in-Err.ensures.admits scheme is made))
 
@@ -73,6 +84,8 @@ returns-in-Ok-checkable-clause-dead g c = λ scheme kept made is spells dead low
       | inr lacks ↦ inr (rw same at lacks)
     ]
 
+-- The clause `opens`: the method and the rounds make the scheme `scheme` (`made`), and the password opens the stored
+-- hash (`opens`). Then the error is 0, or scrypt lacked memory, which happens only if the field needs memory.
 pub returns-in-Err-clause-opens : goal.returns-in-Err-clause-opens
 returns-in-Err-clause-opens g c = λ scheme made opens. absurd (cc (c.in-Err.ensures.admits scheme opens.0 made))
 
@@ -80,6 +93,8 @@ pub returns-in-Err-checkable-clause-opens : goal.returns-in-Err-checkable-clause
 returns-in-Err-checkable-clause-opens g c = λ scheme made opens.
     absurd (cc (c.in-Err-checkable.ensures.admits opens.1.0 opens.1.1 (rw (c.in-Ok.ensures.password.0, c.in-Ok.ensures.limit) opens.1.3)))
 
+-- If scrypt lacked memory, the field needs memory: if it did not (`free`), it would spell a setting whose hash needs
+-- none. But a field spells only one setting, so that would be the setting with which scrypt lacked memory.
 pub returns-in-Ok-checkable-clause-opens : goal.returns-in-Ok-checkable-clause-opens
 returns-in-Ok-checkable-clause-opens g c = λ scheme made opens.
     let kept = (c.in-Ok-checkable.stored).setting in
@@ -96,6 +111,8 @@ returns-in-Ok-checkable-clause-opens g c = λ scheme made opens.
       )
     ]
 
+-- The clause `enough`: if the memory is enough for each hash that the login can make (`enough`), the error is not
+-- `OutOfMemory` (`lacks` says that it is). After a comparison, that hash is the stored one's.
 pub returns-in-Ok-checkable-clause-enough : goal.returns-in-Ok-checkable-clause-enough
 returns-in-Ok-checkable-clause-enough g c = λ enough lacks.
     let kept = (c.in-Ok-checkable.stored).setting in
@@ -110,6 +127,7 @@ returns-in-Ok-checkable-clause-enough g c = λ enough lacks.
       rw (← c.in-Ok.ensures.limit) low,
     )) lacks
 
+-- If the stored hash can't be checked, the hash is the dummy, which is made only if it is within the limit (`within`).
 pub returns-in-Err-checkable-clause-enough : goal.returns-in-Err-checkable-clause-enough
 returns-in-Err-checkable-clause-enough g c = λ enough lacks.
     let password = c.in-Ok.ensures.password in

@@ -39,6 +39,8 @@ made_setting-chosen_rounds : (method : Method) (chosen rounds : ℕ) (salt : Lis
     → kept ≡ record { scheme = made_scheme method (chosen_rounds method rounds); salt = salt }
 made_setting-chosen_rounds method chosen rounds salt kept same is = is ∙ ap (λ (n : ℕ). record { scheme = made_scheme method n; salt = salt }) same
 
+-- If no rule is broken with the rounds that were chosen, none is broken with those that `chosen_rounds` gives, which
+-- are the same.
 not_BreaksMake-chosen_rounds : (method : Method) (chosen rounds : ℕ) (salt : List ℕ) → chosen ≡ chosen_rounds method rounds
     → ((fault : MakeFault) → ¬ BreaksMake method chosen (Some salt) fault)
     → (fault : MakeFault) → ¬ BreaksMake method (chosen_rounds method rounds) (Some salt) fault

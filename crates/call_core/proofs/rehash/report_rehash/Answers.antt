@@ -10,6 +10,9 @@ use Rattle.call_core.proofs.LoginReports.{is_outdated_by-eq}
 use Rattle.call_core.proofs.MadeSchemes.{IsSchemeMade-unique, OnScheme-refused}
 use Rattle.call_core.proofs.rehash.report_rehash.Goals as goal
 
+-- The clause `replaced`: if the stored hash is outdated (`is`), the report's `outdated` is 1. The hypothesis `is` holds
+-- the setting in the field (`.0`), the scheme of the method and the rounds (`.1`), proofs of these two (`.2`, `.3`),
+-- and that the second outdates the first (`.4`).
 pub returns-in-Err-clause-replaced : goal.returns-in-Err-clause-replaced
 returns-in-Err-clause-replaced c = λ is. absurd (c.in-Err.ensures.each_setting is.0 is.2)
 

@@ -1,5 +1,6 @@
 -- `checkable` admits a stored hash whose cost is within the budget (clause `admits`), and returns the only setting that
--- the field spells (clause `only`).
+-- the field spells (clause `only`). In both clauses `kept` is a setting that the field spells (`spells`); `low` says
+-- that its cost is within the budget.
 use Rattle.call_core.proofs.CheckReports.{cost-not_above}
 use Rattle.call_core.proofs.verify.checkable.Goals as goal
 

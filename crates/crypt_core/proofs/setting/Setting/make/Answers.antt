@@ -44,6 +44,7 @@ returns-in_ok-scheme-in-Ok-clause-each_refusal c =
 pub returns-in-Err-clause-accepted : goal.returns-in-Err-clause-accepted
 returns-in-Err-clause-accepted c = false-iff_no_broken_rule c.args.method c.args.cost (Some c.args.salt.now) c.in-Err.fault (c.in-Err.ensures.err c.args.cost)
 
+-- If the method, the cost and the salt are refused for some error (`fault`, `refused`), this is the error returned.
 pub returns-in-Err-clause-each_refusal : goal.returns-in-Err-clause-each_refusal
 returns-in-Err-clause-each_refusal c = λ fault refused.
     ap (λ (f : MakeFault). Err f) (make_refusal_unique c.args.method c.args.cost (Some c.args.salt.now) c.in-Err.fault fault (c.in-Err.ensures.err c.args.cost) refused)
