@@ -92,14 +92,15 @@ pub extern "C" fn mkpasswd_proved_verify(
     )
 }
 
-/// Checks the password of a login. Returns 1 exactly if a new hash can have the method and the rounds and
-/// [`mkpasswd_proved_verify`] returns 1 within the same limit, unless scrypt could not allocate. After a 1 the report's
-/// `outdated` says whether [`mkpasswd_needs_rehash_bytes`] would return 1; after a 0 `outdated` is 0.
+/// Checks the password of a login. Returns 1 exactly if a new hash can have the method and the rounds, the password
+/// matches the stored hash, and that hash costs at most the limit, unless scrypt could not allocate. With a budget of
+/// 0, a new hash of the password must be within the limit too. After a 1 the report's `outdated` says whether
+/// [`mkpasswd_needs_rehash_bytes`] would return 1; after a 0 `outdated` is 0.
 ///
-/// If the field has no valid setting, or one whose hash can cost more than the limit, the call hashes the password with
-/// the method, the rounds and a fixed salt, drops the hash, and returns 0. So a login with such a field takes the work
-/// of a new hash. For an unknown name, pass an empty field. Whatever the field is, the call makes at most one hash, and
-/// digests and mixes no more bytes than the limit.
+/// If the field has no valid setting, or one whose hash can cost more than the limit, the call returns 0, but first
+/// hashes the password with the method, the rounds and a fixed salt, if the limit allows it, and drops the hash. So a
+/// login with such a field takes the work of a new hash. For an unknown name, pass an empty field. Whatever the field
+/// is, the call makes at most one hash, and digests and mixes no more bytes than the limit.
 ///
 /// The limit is the budget, except that a budget of 0 stands for the limit of the policy: twice the cost of a new hash
 /// with the method and the rounds for a password of 64 bytes, and at least 150000000. The policy's limit admits a new
@@ -157,8 +158,8 @@ pub extern "C" fn mkpasswd_proved_login(
 ///
 /// Three random `numbers` make the salt. If `numbers` has any other length, the call hashes nothing and reports the
 /// first error in the list below that applies, which is `NoRandomNumbers` at the latest. So C's `mkpasswd_new` first
-/// makes this call without numbers. It draws three only after `NoRandomNumbers`, when nothing but a lack of memory can
-/// refuse the hash.
+/// makes this call without numbers. It draws three only after `NoRandomNumbers`, when only a lack of memory can make
+/// the next call fail.
 ///
 /// The method is 1 for md5crypt, 5 for sha256crypt, 6 for sha512crypt or 7 for scrypt, as in their hashes. The rounds
 /// are those of `mkpasswd -R`, except that 0 stands for the recommended ones. A budget of 0 is the limit of the policy,
@@ -215,8 +216,8 @@ pub extern "C" fn mkpasswd_proved_new_from(
 /// Returns 1 if a new hash with the method and the rounds would replace the stored one.
 ///
 /// A new hash would replace a stored one that has another method, fewer rounds, or for scrypt a smaller `N * r * p`.
-/// The report's `outdated` is the same 0 or 1, and the report's `error` is 0 in both cases. The call hashes and
-/// allocates nothing.
+/// The report's `outdated` is the same 0 or 1. If the arguments are valid, the report's `error` is 0 whichever it is.
+/// The call hashes and allocates nothing.
 ///
 /// # Errors
 ///
@@ -241,8 +242,8 @@ pub extern "C" fn mkpasswd_needs_rehash_bytes(
 ///
 /// Rounds of 0 are the recommended ones: 656000 for SHA-crypt, and 7 for scrypt. A budget of 0 is the greatest cost of
 /// a hash with the method and the rounds, and at least that of sha512crypt with 656000 rounds. With a budget of 0, a
-/// hash is also over budget if a login with the method, the rounds and the limit of the policy would refuse even the
-/// empty password.
+/// hash is also over budget if with its setting even the empty password costs more than the limit of the policy: then
+/// no login with the method, the rounds and a budget of 0 checks any password against it.
 ///
 /// For a valid hash the report has the scheme, its rounds, or scrypt's N, r and p, and the greatest cost of a hash with
 /// its setting, for a password of 1,024 bytes. After `UnknownScheme` the report has the number of the scheme of
@@ -359,7 +360,7 @@ pub extern "C" fn mkpasswd_bound_bytes(
 /// Hashes a password with a setting, and writes the hash and a zero byte to `out`. With the same budget,
 /// [`mkpasswd_proved_verify`] accepts the hash for the password, unless scrypt could not allocate.
 ///
-/// After a refusal `out` holds the token `*0`, or `*1` if the setting begins with `*0`, cut to the capacity of `out`.
+/// After an error, `out` holds the token `*0`, or `*1` if the setting begins with `*0`, cut to the capacity of `out`.
 ///
 /// # Errors
 ///

@@ -1,9 +1,9 @@
 -- Shows that the canonical form of a setting spells that setting, and how long it can be, for `Setting::text`,
 -- `Setting::salt`, `Setting::make` and `hash_by`. Some text spells the setting, so its rounds or parameters and its
 -- salt are in range; each part of the canonical form (prefix, cost part, salt) then spells the same again. The one
--- delicate case is SHA-crypt without a `rounds=` field, where the salt must not begin with `rounds=`: the salt is a
--- front of the field in the original text, which doesn't. `canonical_spells_before` allows a tail after the canonical
--- form, as a hash has one.
+-- delicate case is SHA-crypt without a `rounds=` field, where the salt must not begin with `rounds=`: the field in the
+-- original text begins with the salt, and doesn't begin with `rounds=`. `canonical_spells_before` allows a tail after
+-- the canonical form, as a hash has one.
 use Rattle.crypt_core.specs.TextLimits.{canonical_limit, hash_limit}
 use Rattle.std.proofs.Common.{◌≡◌, ◌≢◌, ℕ, ◌+◌, ◌≤◌, ◌<◌, ◌^◌, Bool, true, false, not, eqb, ◌&&◌, ◌⊎◌, inl, inr, List, [], ◌∷◌, ◌++◌, length, take, drop, get_or, All, length-append, append-nil, refl, sym, ap, subst, ◌∙◌, append_assoc, arith}
 use Rattle.std.specs.Prelude.{Contains, decimal, codes, nat_le}
@@ -62,7 +62,7 @@ setting-in_range kept (text, s) =
 
 -- ---- lengths
 
--- The most bytes of a `rounds=` field: the word, nine digits, and a `$`.
+-- The most bytes of a `rounds=` field: `rounds=`, nine digits, and a `$`.
 abbrev rounds_field_limit : ℕ
 rounds_field_limit = length rounds_word + 9 + 1
 
@@ -192,7 +192,7 @@ setting_bytes-append_right xs ys all = subst (All IsSettingByte) (drop-append_se
 
 -- ---- the salt
 
--- The salt that a scheme keeps is a front of the field: at most as many bytes as the method keeps.
+-- The salt that a scheme keeps is the first bytes of the field, at most as many as the method keeps.
 kept_salt-take : (scheme : Scheme) (field salt : List ℕ) → KeepsSalt scheme field salt → salt ≡ take (salt_limit (method_of scheme)) field
 kept_salt-take (Scrypt n) field salt k = k.1 ∙ sym (take_all scrypt_salt_limit field k.2.0)
 kept_salt-take scheme field salt k = k
@@ -210,7 +210,7 @@ IsField-kept_salt scheme field rest salt tail f k end = (
 
 -- ---- the cost part
 
--- If a salt, which is the front of a field, begins with a word, the field begins with it too.
+-- If a salt consists of the first bytes of a field and begins with a word, the field begins with that word too.
 BeginsWith-from_take : (n : ℕ) (field rest salt word : List ℕ) → salt ≡ take n field → BeginsWith (salt ++ []) word → BeginsWith (field ++ rest) word
 BeginsWith-from_take n field rest salt word e (more, begins) = (
   more ++ (drop n field ++ rest),
@@ -273,8 +273,8 @@ Spells-from_parts kept tail c l bytes is_field cost keeps tail_bytes short =
       salt = keeps;
     }
 
--- If some text spells a setting, the setting's canonical form spells it too, also with a tail behind it that begins
--- with a `$`.
+-- If some text spells a setting, the setting's canonical form spells it too, also if a tail of setting bytes that
+-- begins with a `$` follows it.
 pub canonical_spells_before : (text : List ℕ) (kept : SettingValue) (tail : List ℕ) → Spells text kept → IsEndOfField tail → All IsSettingByte tail → canonical_limit + length tail ≤ setting_limit
     → Spells (canonical_text kept ++ tail) kept
 canonical_spells_before text kept tail s end tail_bytes short =

@@ -1,5 +1,5 @@
--- Facts that hold for every method, for `Setting::text`, `salt_of` and `append_packed`. `each_method` lifts a boolean
--- test that computes to true on the list of methods to any single method; the others use it on the table of methods.
+-- Facts that hold for every method, for `Setting::text`, `salt_of` and `append_packed`. If a boolean test computes to
+-- true on the list of methods, `each_method` shows that every method passes it.
 use Rattle.std.proofs.Common.{◌≡◌, Bool, true, eqb, length, refl}
 use Rattle.std.specs.List.{list_all}
 use Rattle.std.proofs.lemmas.Bool.{and_parts, eqb-true}

@@ -161,6 +161,7 @@ module _ (text : List ℕ) (is_text : IsSettingText text) where
     scrypt_numbers_unique : (m : ScryptParams) (after : List ℕ) → SpellsScheme text (Scrypt m) after → n ≡ m
     scrypt_numbers_unique m after s = let same : Scrypt n ≡ Scrypt m = (scheme_unique text (Scrypt n) (Scrypt m) rest after spelled s).0 in cc
 
+    -- A text that spells numbers in range also passes the stage `ScryptRange`, and with accepted ones `AboveCeiling`.
     refused-from_ceiling_stage : IsInRange n → (fault : SettingFault) → FirstFrom 6 fault → IsRefused text fault
     refused-from_ceiling_stage inside fault first = refused-from_range_stage fault (inr (λ b. b.3 (subst IsInRange (scrypt_numbers_unique b.0 b.1 b.2) inside), first))
 

@@ -73,7 +73,7 @@ pub IsSetting-given_salt : (scheme : Scheme) (kept salt : List ℕ) → IsScheme
 IsSetting-given_salt scheme kept salt c takes kept_is_salt =
     subst (λ (xs : List ℕ). IsSetting (record { scheme = scheme; salt = xs })) (sym kept_is_salt) (IsSetting-from_parts scheme salt c takes.short takes.characters)
 
--- ---- what is made
+-- ---- schemes made from a method and rounds
 
 pub IsAccepted-made_params : (rounds : ℕ) → rounds ≤ 11 → IsAccepted (record { log_n = rounds + 7; r = 32; p = 1 })
 IsAccepted-made_params rounds high =
@@ -112,12 +112,12 @@ not-BreaksMake m rounds salt h takes SaltLength = salt_length-breaks_no_rule m s
 not-BreaksMake m rounds salt h takes SaltCharacter = λ b. b h.characters
 not-BreaksMake m rounds salt h takes Cost = λ b. b takes
 
--- If a method, rounds and a salt have an error, they break some rule.
+-- If an error is that of the first rule that a method, rounds and a salt break, they break some rule.
 pub IsMakeRefused-breaks_some : (m : Method) (rounds : ℕ) (given : Option (List ℕ)) (fault : MakeFault) → IsMakeRefused m rounds given fault → ((f : MakeFault) → ¬ BreaksMake m rounds given f) → ⊥
 unfolding IsMakeRefused
 IsMakeRefused-breaks_some m rounds given fault refused none = none fault (first_breaks make_faults (BreaksMake m rounds given) fault refused)
 
--- A method, rounds and a salt have at most one error.
+-- The error of the first rule that a method, rounds and a salt break is unique.
 pub make_refusal_unique : (m : Method) (rounds : ℕ) (given : Option (List ℕ)) (f g : MakeFault) → IsMakeRefused m rounds given f → IsMakeRefused m rounds given g → f ≡ g
 unfolding IsMakeRefused
 make_refusal_unique m rounds given f g rf rg = first_unique make_faults (BreaksMake m rounds given) f g rf rg
@@ -134,6 +134,8 @@ pub IsOk-iff_no_broken_rule : {T : Type 0} (m : Method) (rounds : ℕ) (given : 
 IsOk-iff_no_broken_rule m rounds given (Ok x) ok err = (λ e. ok, λ none. refl)
 IsOk-iff_no_broken_rule m rounds given (Err f) ok err = (λ e. absurd (cc e), λ none. absurd (IsMakeRefused-breaks_some m rounds given f err none))
 
+-- Where `Setting::make` has refused the salt, the checker computes `IsOk result` in the clause `accepted` to
+-- `false ≡ true`. Both sides of that equivalence are false.
 pub false-iff_no_broken_rule : (m : Method) (rounds : ℕ) (given : Option (List ℕ)) (fault : MakeFault) → IsMakeRefused m rounds given fault
     → (false ≡ true → (f : MakeFault) → ¬ BreaksMake m rounds given f) × (((f : MakeFault) → ¬ BreaksMake m rounds given f) → false ≡ true)
 false-iff_no_broken_rule m rounds given fault refused = (λ e. absurd (cc e), λ none. absurd (IsMakeRefused-breaks_some m rounds given fault refused none))

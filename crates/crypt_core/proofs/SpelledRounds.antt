@@ -20,7 +20,7 @@ IsField-rounds_number (d ∷ ds) rest number = (
   end_of_field-cases (dollar ∷ rest) refl,
 )
 
--- The `rounds=` field, with what follows it, is the word followed by the digits, the `$` and the rest.
+-- A `rounds=` field and the rest after it are `rounds=`, the digits, a `$` and the rest.
 pub rounds_field-append : (digits rest : List ℕ) → rounds_field digits ++ rest ≡ rounds_word ++ (digits ++ (dollar ∷ rest))
 rounds_field-append digits rest = rw (append_assoc, append_assoc) refl
 
@@ -47,7 +47,7 @@ rounds_unique-by_parts m n false false p q x y a b e =
 abbrev rounds_of : ℕ → Bool → Rounds
 rounds_of n f = record { count = n; is_written = f }
 
--- What follows a prefix spells rounds in one way only.
+-- What follows SHA-crypt's prefix spells rounds in one way only.
 pub rounds_unique : (a b : Rounds) (p q x y : List ℕ) → SpellsRounds a p x → SpellsRounds b q y → p ++ x ≡ q ++ y → (a ≡ b) × (x ≡ y)
 rounds_unique a b p q x y ra rb e =
     let all = rounds_unique-by_parts a.count b.count a.is_written b.is_written p q x y ra rb e in

@@ -32,7 +32,8 @@ pub record Unpacks (groups : List (List ℕ)) (text : List ℕ) : Type 0 where
   pub count : length bytes ≡ length (order groups)
   pub packs : (digest : List ℕ) → map (slice_index digest) (order groups) ≡ bytes → packed_by groups digest ≡ text
 
--- Unpacks a text that has the length of one packed group and a last value that this group can have.
+-- Unpacks a text that has the length of one packed group, and whose last character has a value that is possible for
+-- this group.
 Unpacks-one_group : (places text : List ℕ) → length text ≡ length places + 1 → All (Contains alphabet) text → EndsBelow (4 ^ length places) text
     → 4 ^ length places ≤ 64 → Unpacks (places ∷ []) text
 unfolding EndsBelow order joined

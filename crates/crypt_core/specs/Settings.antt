@@ -1,4 +1,5 @@
--- Settings: which string spells which setting, and the one canonical form of each (crypt(5)).
+-- Settings: which string spells which setting, and the one canonical form of each (crypt(5)). Definitions and lemmas
+-- name a setting `kept`, because it is what is kept of a string that spells it.
 use Rattle.std.specs.Prelude.{◌≡◌, ◌≢◌, ◌⊎◌, ℕ, ◌^◌, ◌<◌, ◌≤◌, if◌then◌else◌, List, [], ◌∷◌, ◌++◌, length, take, All, Contains, MatchBool, decimal, codes}
 use Rattle.std.specs.Str.Parse.{digits_value}
 use Rattle.prims_core.specs.Alphabet.{alphabet, numerals}

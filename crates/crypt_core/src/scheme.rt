@@ -22,10 +22,10 @@ pub const MIN_ROUNDS: u64 = 1000;
 /// The rounds of SHA-crypt if the setting has no `rounds=` field (Drepper's specification).
 pub const DEFAULT_ROUNDS: u32 = 5000;
 
-/// The least rounds from which [`Scheme::made`] makes a scheme of scrypt, apart from 0.
+/// The fewest rounds from which [`Scheme::made`] makes a scheme of scrypt, apart from 0. The range is that of crypt(5).
 const MIN_SCRYPT_ROUNDS: u32 = 6;
 
-/// The most rounds from which [`Scheme::made`] makes a scheme of scrypt.
+/// The most rounds from which [`Scheme::made`] makes a scheme of scrypt. The range is that of crypt(5).
 const MAX_SCRYPT_ROUNDS: u32 = 11;
 
 /// The rounds of scrypt that 0 stands for in [`Scheme::made`].
@@ -151,8 +151,8 @@ impl Scheme {
         }
     }
 
-    /// Returns the method of the scheme. The contract also states that the rounds, or scrypt's parameters, are in
-    /// range.
+    /// Returns the method of the scheme. The contract also states that SHA-crypt's rounds are in range, and that
+    /// scrypt's parameters are accepted.
     pub fn method(&self) -> Method
         ensures method { result ≡ method_of self.now }
         ensures in_range { IsScheme self.now }
@@ -160,6 +160,7 @@ impl Scheme {
         match self {
             Scheme::Md5crypt => Method::Md5crypt,
             Scheme::Shacrypt(sha, rounds) => {
+                // The call of `count` gives the prover what the clause `in_range` says of SHA-crypt.
                 prove!(u64::from(rounds.count()) <= MAX_ROUNDS);
                 match sha {
                     Sha::Sha256 => Method::Sha256crypt,
@@ -167,6 +168,7 @@ impl Scheme {
                 }
             }
             Scheme::Scrypt(params) => {
+                // The call of `log_n` gives the prover what the clause `in_range` says of scrypt.
                 prove!(params.log_n() > 0);
                 Method::Scrypt
             }

@@ -104,13 +104,14 @@ pub extern "C" fn web_verify(
 }
 
 /// Checks the password of a login, as `mkpasswd_login` does for C. Returns 1 exactly if a new hash can have the method
-/// and the rounds and [`web_verify`] returns 1 within the same limit, unless too little memory is lent for scrypt.
-/// After a 1 the report's `outdated` says whether [`web_needs_rehash`] would return 1; after a 0 `outdated` is 0.
+/// and the rounds, the password matches the stored hash, and that hash costs at most the limit, unless too little
+/// memory is lent for scrypt. With a budget of 0, a new hash of the password must be within the limit too. After a 1
+/// the report's `outdated` says whether [`web_needs_rehash`] would return 1; after a 0 `outdated` is 0.
 ///
-/// If the field has no valid setting, or one whose hash can cost more than the limit, the call hashes the password with
-/// the method, the rounds and a fixed salt, drops the hash, and returns 0. So a login with such a field takes the work
-/// of a new hash. For an unknown name, pass an empty field. Whatever the field is, the call makes at most one hash, and
-/// digests and mixes no more bytes than the limit.
+/// If the field has no valid setting, or one whose hash can cost more than the limit, the call returns 0, but first
+/// hashes the password with the method, the rounds and a fixed salt, if the limit allows it, and drops the hash. So a
+/// login with such a field takes the work of a new hash. For an unknown name, pass an empty field. Whatever the field
+/// is, the call makes at most one hash, and digests and mixes no more bytes than the limit.
 ///
 /// The limit is the budget, except that a budget of 0 stands for the limit of the policy: twice the cost of a new hash
 /// with the method and the rounds for a password of 64 bytes, and at least 150000000. The policy's limit admits a new
@@ -189,7 +190,8 @@ pub extern "C" fn web_login_need(
 /// for C.
 ///
 /// A new hash would replace a stored one that has another method, fewer rounds, or for scrypt a smaller `N * r * p`.
-/// The report's `outdated` is the same 0 or 1, and the report's `error` is 0 in both cases. The call hashes nothing.
+/// The report's `outdated` is the same 0 or 1. If the arguments are valid, the report's `error` is 0 whichever it is.
+/// The call hashes nothing.
 ///
 /// # Errors
 ///
@@ -212,7 +214,7 @@ pub extern "C" fn web_needs_rehash(
 /// Hashes a password with a setting, and writes the hash and a zero byte to `out`. With the same budget, [`web_verify`]
 /// accepts the hash for the password, unless too little memory is lent for scrypt.
 ///
-/// After a refusal `out` holds the token `*0`, or `*1` if the setting begins with `*0`, cut to the capacity of `out`.
+/// After an error, `out` holds the token `*0`, or `*1` if the setting begins with `*0`, cut to the capacity of `out`.
 ///
 /// # Errors
 ///
@@ -257,7 +259,7 @@ pub extern "C" fn web_need(password: &[u8], text: &[u8], budget: u64, need: &mut
 /// Makes a setting with a method, the rounds and three random numbers, and writes it and a zero byte to `out`.
 ///
 /// The method is 1 for md5crypt, 5 for sha256crypt, 6 for sha512crypt or 7 for scrypt, as in their hashes. The rounds
-/// are those of `mkpasswd -R`, except that 0 stands for the recommended ones. After a refusal `out` holds the token
+/// are those of `mkpasswd -R`, except that 0 stands for the recommended ones. After an error, `out` holds the token
 /// `*0`, cut to the capacity of `out`.
 ///
 /// # Errors
@@ -290,8 +292,8 @@ pub extern "C" fn web_setting(
 ///
 /// Rounds of 0 are the recommended ones: 656000 for SHA-crypt, and 7 for scrypt. A budget of 0 is the greatest cost of
 /// a hash with the method and the rounds, and at least that of sha512crypt with 656000 rounds. With a budget of 0, a
-/// hash is also over budget if a login with the method, the rounds and the limit of the policy would refuse even the
-/// empty password.
+/// hash is also over budget if with its setting even the empty password costs more than the limit of the policy: then
+/// no login with the method, the rounds and a budget of 0 checks any password against it.
 ///
 /// For a valid hash the report has the scheme, its rounds, or scrypt's N, r and p, and the greatest cost of a hash with
 /// its setting, for a password of 1,024 bytes. After `UnknownScheme` the report has the number of the scheme of

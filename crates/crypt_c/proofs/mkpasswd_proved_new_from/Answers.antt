@@ -1,7 +1,7 @@
 -- The clauses of `mkpasswd_proved_new_from` follow from those of `put_new_hash`, which gets the limit that the budget
 -- stands for and makes the report and `out`, and those of `tell`, whose result is 1 exactly if the report's error is 0.
 -- In `writes`, the policy's limit admits the new hash (`limit_by-policy_limit`), whose cost does not depend on the
--- salt, and `out` has room for it, so only a lack of memory can refuse the hash (`HashesAnew-made`).
+-- salt, and `out` has room for it, so only a lack of memory can make the call fail (`HashesAnew-made`).
 use Rattle.std.proofs.Common.{◌≡◌, ◌==◌, ◌∙◌, ap, arith, false, inl, inr, length, nat_lt, pos, rules, true}
 use Rattle.crypt_core.specs.Crypt.{crypt}
 use Rattle.crypt_core.specs.MadeSettings.{salted}

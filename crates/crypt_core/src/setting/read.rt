@@ -176,8 +176,8 @@ fn params_at(after: &[u8]) -> Result<Params, SettingFault>
     }
 }
 
-// Returns log2 N, r and p, which the first 11 characters encode, or `None` if these are not 11 characters of crypt's
-// alphabet.
+// Returns log2 N, r and p, which the first 11 characters encode (one, five and five of them), or `None` if these are
+// not 11 characters of crypt's alphabet.
 fn numbers_at(after: &[u8]) -> Option<(u8, u32, u32)>
     ensures none { IfNone result (LacksCharacters after.now) }
     ensures long { OnSome result (scrypt_part_len ≤ length after.now) }

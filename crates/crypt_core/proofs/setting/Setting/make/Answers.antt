@@ -1,7 +1,7 @@
 -- Proves the invariant and the clauses of `Setting::make` for each of its results: the error for a bad salt, the error
--- for a bad cost, or a setting. The setting is spelled by its canonical form, a bad salt breaks the first or second
--- rule, and a bad cost with a good salt the third. A method, a cost and a salt have at most one error (MadeSettings),
--- so `each_refusal` follows from `refused` and `accepted`.
+-- for a bad cost, or a setting. The canonical form spells the setting. For a bad salt, `given_salt` returns the error
+-- of the first broken rule; for a good salt with a bad cost, that error is `Cost`. The error of the first broken rule
+-- is unique (MadeSettings), so `each_refusal` follows from `refused` and `accepted`.
 use Rattle.std.proofs.Common.{◌≡◌, ◌∙◌, ap, rules, subst, sym}
 use Rattle.std.specs.Prelude.{Err, Some}
 use Rattle.crypt_core.specs.declared.setting.fault.MakeFault.{MakeFault}
