@@ -32,6 +32,7 @@ use Rattle.mkpasswd.specs.Private.Options.{HasPassed, parser_by_id}
 
 -- ---- A command whose arguments have no rules about one another
 
+-- all_free rules: whether every rule is free (`is_free`).
 abbrev pub all_free : List Rule → Bool
 all_free = list_all (λ rule. rule.is_free)
 
@@ -55,8 +56,8 @@ IsPlain-all_free c ready leaves free =
 
 -- ---- A value of an argument
 
--- IsOnly c k id q: argument k of the command has this id and the parser `q`. No other argument has its id, and `clap`
--- adds none with it when it builds the command.
+-- IsOnly c k id q: argument k of the command has this id, which is not empty, and the parser `q`. No other argument has
+-- its id, and `clap` adds none with it when it builds the command.
 record IsOnly (c : Command) (k : ℕ) (id : Text) (q : ValueParser) : Type 0 where
   within : k < length (args_of c)
   called : (d : Arg) → (slice_index_or (args_of c) k d).id.now ≡ id
@@ -112,7 +113,8 @@ HasPassed_from_EntryPasses c m p k id q is no_groups e key pass text read =
       subst (λ (w : ValueParser). Accepts any.1.ignore_case w first.0.now) (own_parser any.0 any.1 any.2 any.3 any.4.0) any.4.1,
     )
 
--- IsOnlyRule rules k r q: rule k is `r`, which has the parser `q`. No other rule has its id.
+-- IsOnlyRule rules k r q: rule k is `r`, which has the parser `q`. No other rule has its id, which is not empty and
+-- neither `help` nor `version`.
 pub record IsOnlyRule (rules : List Rule) (k : ℕ) (r : Rule) (q : ValueParser) : Type 0 where
   pub within : k < length rules
   pub place : (z : Rule) → slice_index_or rules k z ≡ r
@@ -139,11 +141,11 @@ IsOnly_from_IsOnlyRule c k r q rule =
 
 -- ---- The rule with an id, if no two rules have the same id
 
--- No rule has this id.
+-- lacks_id id rules: whether no rule has this id.
 abbrev lacks_id : Text → List Rule → Bool
 lacks_id id = list_all (λ rule. not (bytes_eq rule.id id))
 
--- No two rules have the same id, and no id is empty, `help` or `version`.
+-- have_own_ids rules: whether no two rules have the same id, and no id is empty, `help` or `version`.
 abbrev pub have_own_ids : List Rule → Bool
 have_own_ids [] = true
 have_own_ids (rule ∷ rules) =
@@ -158,7 +160,7 @@ lacks_id-each id [] all j z lt same = absurd (omega arith)
 lacks_id-each id (rule ∷ rules) all zero z lt same = true≢false (sym same ∙ not-true (bytes_eq rule.id id) (and_parts _ _ all).0)
 lacks_id-each id (rule ∷ rules) all (suc j) z lt same = lacks_id-each id rules (and_parts _ _ all).1 j z (omega arith) same
 
--- Exactly one of the rules has this id, and its parser is `q`.
+-- HaveOne rules id q: exactly one of the rules has this id, and its parser is `q`.
 abbrev HaveOne : List Rule → Text → ValueParser → Type 0
 HaveOne rules id q = (k : ℕ) × (r : Rule) × (r.id ≡ id) × IsOnlyRule rules k r q
 

@@ -1,8 +1,9 @@
 -- What `clap` makes of the arguments `-m TYPE -S SALT PASSWORD`, if none of the three texts is an option: it accepts
 -- them, and finds the three texts and nothing else. PrintedHash needs this for the clause `prints` of `run_command`.
 --
--- The proof follows `clap` through the five words. Each word leads from one known state to the next without an error,
--- whatever its text is, because `clap`'s tests for options fail on it.
+-- The proof follows `clap` through the five words. Each word leads from one known state to the next without an error.
+-- For TYPE, SALT and PASSWORD this does not depend on the text, because `clap`'s tests for options fail on each of
+-- them.
 use Rattle.std.proofs.Common.{◌≡◌, ◌==◌, ℕ, false, refl, ap, List, [], ◌∷◌, codes, Some, None, inl, inr}
 use Rattle.std.proofs.lemmas.Bool.{ne_eqb}
 use Rattle.std.specs.List.{fold}

@@ -15,11 +15,12 @@ use Rattle.clap.proofs.CallerReads.{signed_reads}
 use Rattle.mkpasswd.specs.Options.{command_rules}
 use Rattle.mkpasswd.specs.Private.Options.{HasPassed, HavePassed, IsNumber, parser_by_id, takes_below}
 
--- What `parse` promises for an unsigned number of this many bits.
+-- Parses bits text read: what `str::parse` promises of its result for this text and an unsigned number of this many
+-- bits.
 abbrev pub Parses : ℕ → Text → Result ℕ ParseIntError → Type 0
 Parses bits text read = ParsesUnsigned bits 10 text read × ExplainsUnsignedError 10 text read × HasUnsignedDigitsIfOk text read
 
--- The number that the digits of a text say.
+-- number_of text: the number that the digits of the text say. A plus may precede them.
 abbrev pub number_of : Text → ℕ
 number_of text = digits_value 10 (without_leading_plus text)
 

@@ -1,6 +1,6 @@
--- From what the steps of `run_command` promise to its clause `serves`, and to the clauses of `report_fault`,
--- `show_error` and `show_refusal`. The lemmas say what each written text is: the line that reports an error, `clap`'s
--- message, or the output of a run with a tally. They go through the cases of the definitions.
+-- Lemmas for the clause `serves` of `run_command`, and for the clauses of `report_fault`, `show_error` and
+-- `show_refusal`. They derive these clauses from what the called functions promise, in each case of the definitions:
+-- the command wrote the line that reports an error, it wrote `clap`'s message, or a run ended with a tally.
 use Rattle.std.proofs.Common.{◌≡◌, ◌≢◌, ◌⊎◌, ℕ, List, [], length, Bool, false, Result, Ok, Err, ap, refl, inl, inr}
 use Rattle.clap.specs.Words.{Text}
 use Rattle.clap.specs.declared.error.kind.ErrorKind.{ErrorKind}
@@ -26,7 +26,8 @@ use Rattle.run_core.specs.declared.tally.Tally.{Tally}
 -- ---- A text that was written
 
 module _ {T : Type 0} where
-  -- `IsTold` holds if the line that reports the error was shown, in at most as many calls as it has bytes.
+  -- If `Shows` holds for the line that reports an error, and for as many calls as the line has bytes, then `IsTold`
+  -- holds.
   pub IsTold_from_Shows : {A : Type 0} (fault : Fault) (old new : Device T) (line : List ℕ) (turns : ℕ) (result : Result A RunFault)
       → line ≡ fault_line fault → turns ≡ length line → Shows turns old new line result → IsTold fault old new
   IsTold_from_Shows {A} fault old new line turns result line_is turns_is shows =
@@ -59,7 +60,8 @@ parse_status-mistake which other = elim (parse_status-cases which) [
 ]
 
 module _ {O E : Type 0} where
-  -- A refusal of the arguments that is not an error of `clap` was reported with its own line and status.
+  -- If an error that is not `clap`'s was reported with its line and its status, and nothing was written to `out`, then
+  -- `RefusalShown` holds.
   pub RefusalShown-told : (fault : UsageFault) (turns : ℕ) (out : Device O) (faults : Device E) (new_faults : Device E) (status : ℕ)
       → ((error : Error) → fault ≢ Parse error) → IsTold (Usage fault) faults new_faults → status ≡ (fault_row (Usage fault)).0
       → RefusalShown fault turns out faults out new_faults status
@@ -69,10 +71,11 @@ module _ {O E : Type 0} where
 -- ---- The command
 
 module _ {I O E : Type 0} where
-  -- The state of the run with other outputs.
+  -- with_faults old faults: the state `old` with `faults` in place of its own.
   abbrev pub with_faults : RunState I O E → Device E → RunState I O E
   with_faults old faults = record old { faults = faults }
 
+  -- with_outs old out faults: the state `old` with these two outputs in place of its own.
   abbrev pub with_outs : RunState I O E → Device O → Device E → RunState I O E
   with_outs old out faults = record old { out = out; faults = faults }
 
@@ -83,7 +86,7 @@ module _ {I O E : Type 0} where
   Serves-run turns Made IsKept generates arguments plan old new tally status planned asks runs status_is =
       (Ok plan, planned, asks, rw runs.0 (new, Ok tally, runs.1, (refl, status_is)))
 
-  -- Writing the line that reports an error changes only `faults`.
+  -- If `IsTold` holds, nothing but `faults` has changed, and the status is that of the error, then `Tells` holds.
   Tells_from_IsTold : (fault : Fault) (old : RunState I O E) (faults : Device E) (status : ℕ) → IsTold fault old.faults faults → status ≡ (fault_row fault).0
       → Tells fault old (with_faults old faults) status
   Tells_from_IsTold fault old faults status (result, shows) status_is = (result, shows, refl, status_is)
@@ -98,7 +101,7 @@ module _ {I O E : Type 0} where
       (Ok plan, planned, asks, rw runs.0 (mid, Err fault, runs.1, Tells_from_IsTold (Run fault) mid faults status is_told status_is))
   Serves-run_fault turns Made IsKept generates arguments plan old mid faults (Usage fault) status planned asks runs is_told status_is = absurd runs
 
-  -- If an error of `clap`, help or the version was shown, the clause `serves` holds.
+  -- If `ErrorShown` holds for an error of `clap`, which may be help or the version, the clause `serves` holds.
   pub Serves-clap_error : (turns : ℕ) (Made IsKept : Type 0) (generates : Bool) (arguments : List Text) (error : Error) (old : RunState I O E) (out : Device O) (faults : Device E) (status : ℕ)
       → Plans arguments (Err (Parse error)) → IsAsked Made IsKept false → ErrorShown error turns old.out old.faults out faults status
       → Serves turns Made IsKept generates arguments old (with_outs old out faults) status
@@ -131,7 +134,7 @@ module _ {I O E : Type 0} where
   Serves-clap_error turns Made IsKept generates arguments error old out faults status planned asks (no_text told same status_is) =
       (Err NoMemory, tt, asks, rw same (Tells_from_IsTold (Usage NoMemory) old faults status told status_is))
 
-  -- If a refusal of the arguments was shown, the clause `serves` holds.
+  -- If `RefusalShown` holds for the arguments' error, the clause `serves` holds.
   pub Serves-refusal : (turns : ℕ) (Made IsKept : Type 0) (generates : Bool) (arguments : List Text) (fault : UsageFault) (old : RunState I O E) (out : Device O) (faults : Device E) (status : ℕ)
       → Plans arguments (Err fault) → IsAsked Made IsKept false → RefusalShown fault turns old.out old.faults out faults status
       → Serves turns Made IsKept generates arguments old (with_outs old out faults) status

@@ -46,8 +46,8 @@ Reads-nothing input = record { shown = Consumes-nothing input.shown; counted = o
 module _ {I O E : Type 0} where
   -- ---- A plan whose run has a tally of status 0
 
-  -- If the tally of a run has status 0, the run succeeded: it wrote all its answers, and none of them is a refusal or a
-  -- no.
+  -- If the tally of a run has status 0, the run succeeded: it wrote all its answers, no line was refused or got the
+  -- verdict `no`, and no audited account needs care.
   Succeeds_from_Finishes : (answers : List Answer) (read : List ℕ) (old new : RunState I O E) (tally : Tally) → tally_status tally ≡ 0
       → Reads old.input new.input read → Finishes answers old new (Ok tally)
       → Succeeds read answers old new

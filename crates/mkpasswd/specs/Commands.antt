@@ -51,8 +51,8 @@ module _ {I O E : Type 0} where
       Shows turns old.out new.out text result × (new ≡ record old { out = new.out }) × IfOk result (λ tally. tally ≡ tally_of [])
 
   -- Tells fault old new status: the command writes `mkpasswd: MESSAGE` and a line feed to `faults`, in at most as many
-  -- calls as this line has bytes, and flushes it. If that fails, a prefix of the line may be written. Only `faults`
-  -- changes, and the status is that of the error.
+  -- calls as this line has bytes, and flushes it. If that fails, a prefix of the line may have been written. Only
+  -- `faults` changes, and the status is that of the error.
   abbrev pub Tells : Fault → RunState I O E → RunState I O E → ℕ → Type 0
   Tells fault old new status =
       let line = as_line (codes "mkpasswd: " ++ (fault_row fault).1) in

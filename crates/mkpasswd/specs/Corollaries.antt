@@ -36,8 +36,8 @@ module _ {I O E : Type 0} where
     pub others : new ≡ record old { out = new.out }
     pub gives : Takes 0 1 old.out new.out text
 
-  -- Succeeds read answers old new: a run read these bytes and wrote these answers. No answer is a refusal, the answer
-  -- `no` or an account that needs care, so the status is 0.
+  -- Succeeds read answers old new: a run read these bytes and wrote these answers. No line was refused or got the
+  -- verdict `no`, and no audited account needs care, so the status is 0.
   pub record Succeeds (read : List ℕ) (answers : List Answer) (old new : RunState I O E) : Type 0 where
     pub input : Reads old.input new.input read
     pub run : Finishes answers old new (Ok (tally_of answers))

@@ -14,7 +14,8 @@ use Rattle.mkpasswd.specs.declared.fault.Fault.{Fault}
 use Rattle.mkpasswd.specs.declared.fault.Fault.TheVariants.{Start, Usage, Run}
 use Rattle.mkpasswd.specs.declared.fault.UsageFault.TheVariants.{Parse, Method, TwoSalts, TwoModes, Make, OutOfMemory}
 
--- parse_status kind: the exit status of `clap`'s error: 0 if the arguments ask for help or the version, otherwise 2.
+-- parse_status kind: the exit status of an error of `clap` with this kind. It is 0 if the arguments ask for help or the
+-- version, and otherwise 2.
 abbrev pub parse_status : ErrorKind → ℕ
 parse_status DisplayHelp = 0
 parse_status DisplayVersion = 0
@@ -38,7 +39,7 @@ abbrev pub fault_line : Fault → List ℕ
 fault_line fault = as_line (codes "mkpasswd: " ++ (fault_row fault).1)
 
 -- IsTold fault old new: the command wrote the line that reports the error, in at most as many calls as this line has
--- bytes, and flushed it. If that failed, a prefix of the line may be written.
+-- bytes, and flushed it. If that failed, a prefix of the line may have been written.
 abbrev pub IsTold : {E : Type 0} → Fault → Device E → Device E → Type 0
 IsTold fault old new =
     (result : Result Tally RunFault) × Shows (length (fault_line fault)) old new (fault_line fault) result

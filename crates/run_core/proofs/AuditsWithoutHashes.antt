@@ -18,7 +18,7 @@ use Rattle.run_core.specs.declared.job.Job.{Job}
 use Rattle.run_core.specs.declared.line.Kind.TheVariants.{Audit}
 use Rattle.run_core.specs.declared.tally.Tally.{Tally}
 
--- ---- no answer takes a hash
+-- ---- no answer has a hash
 
 hashings-audit_answer : (job : Job) (number : ℕ) (line : List ℕ) (answer : Answer) → IsAuditAnswer job number line answer → answer.hashings ≡ []
 hashings-audit_answer job number line answer (inl (fault, refused, is)) = ap (λ (a : Answer). a.hashings) is
@@ -66,8 +66,8 @@ module _ {I O E : Type 0} where
   }
 
   -- The cases are those of `EndsBy`, in order: all lines are answered; reading stopped, because a read failed or no I/O
-  -- call was left; an answer was cut short, because a write failed, no I/O call was left or memory was lacking; or a
-  -- password was refused, which a run over lines never does.
+  -- call was left; the run stopped at an answer, because a write failed, no I/O call was left or scrypt could not
+  -- allocate memory; or a password was refused, which a run over lines never does.
   pub HashesNothing_from_EndsLines : (turns : ℕ) (job : Job) (old new : RunState I O E) (result : Result Tally RunFault) → EndsLines turns Audit job old new result → HashesNothing old new result
   HashesNothing_from_EndsLines turns job old new (Ok tally) (bytes, reads, (answers, (at_end, are), (is, takes, after))) =
       HashesNothing_from_IsAfter _ old new (Ok tally) (hashings_of-audit_answers job job.first_line _ old.stream answers are) after (λ same. cc)

@@ -51,6 +51,7 @@ module _ {I : Type 0} where
     pub fetched : Fetches left mid new (drop filled next) (Ok count)
 
   -- After the `fetch` of `HasFetched`, the first `filled + count` bytes of the buffer are all bytes that were read.
+  -- They fit into the buffer, and are the `filled` bytes from before, without a line feed, and then `count` new bytes.
   Reads_from_HasFetched : (old mid new : Device I) (buffer next : List ℕ) (filled count turns left : ℕ)
       → HasFetched old mid new buffer next filled count turns left
       → (filled + count ≤ buffer_size)

@@ -2,8 +2,8 @@
 -- that hash speak of a password and of a field as it was read (`Settles`). The public clauses speak of the line
 -- (`IsAnswer`), its cost (`IsCostly`) and its outcome (`ComesTo`), and `Concludes_from_Settles` leads to them. The main
 -- step: a line has only one list of parts, and a field spells at most one setting, so the cost that was compared with
--- the budget is the line's only cost. `would_check` gives the outcome that a check would have had if scrypt could not
--- allocate memory, for the clause `settles` of `check_within_budget`.
+-- the budget is the line's only cost. For the clause `settles` of `check_within_budget` where scrypt could not allocate
+-- memory, `would_check` gives the outcome that the check would otherwise have had.
 use Rattle.std.proofs.Common.{◌≡◌, ℕ, Bool, true, false, List, [], ◌∷◌, ◌++◌, codes, slice_index, length, Option, Some, None, inl, inr, refl, sym, ap, subst, ◌∙◌, true≢false, arith}
 use Rattle.std.specs.Prelude.{◌≢◌, Result, Ok, Err}
 use Rattle.std.specs.Bool.{Decides}
@@ -167,7 +167,7 @@ ComesTo_from_IsChecked job stream name password field stored hashings (Rehashed 
 ComesTo_from_IsChecked job stream name password field stored hashings outcome is spells checked = absurd checked
 
 -- If a line breaks no rule, and the cost for its password and its field is not above the budget, the line is not
--- costly, and its outcome is the one that was settled for this password and this field.
+-- costly, and its outcome is the one that `IsSettled` gives for this password and this field.
 ComesTo_from_IsSettled : (kind : Kind) (job : Job) (line : List ℕ) (stream : Stream) (name password : List ℕ) (field : Option (List ℕ)) (stored : Option StoredField)
     (hashings : List Hashing) (outcome : Outcome) → HasSoundParts kind line (parts_with name password field) → IsFieldOf field stored
     → ¬ IsAbove job.budget (field_cost job stored (length password))
@@ -200,7 +200,7 @@ pub IsAnswer-refusal : (kind : Kind) (job : Job) (number : ℕ) (line : List ℕ
 IsAnswer-refusal Audit job number line stream fault refused = inl (fault, refused, refl)
 IsAnswer-refusal kind job number line stream fault refused = inl (fault, refused, refl)
 
--- The answer to a line that is not to be audited is the answer for its password.
+-- If a line is not to be audited, `IsPasswordAnswer` implies `IsAnswer`.
 IsAnswer-password : (kind : Kind) (job : Job) (number : ℕ) (line : List ℕ) (stream : Stream) (answer : Answer) → kind ≢ Audit
     → IsPasswordAnswer kind job number line stream answer → IsAnswer kind job number line stream answer
 IsAnswer-password Audit job number line stream answer other is = absurd (other refl)
@@ -215,8 +215,8 @@ IsAnswer-audit Audit job number line stream parts field finding is taken fielded
 IsAnswer-audit Batch job number line stream parts field finding is taken fielded finds = absurd cc
 IsAnswer-audit Check job number line stream parts field finding is taken fielded finds = absurd cc
 
--- The answer to a line that breaks no rule and is within the budget is its name and the outcome that was settled for
--- its password and its field.
+-- The answer to a line that breaks no rule and is within the budget is its name and the outcome that `IsSettled` gives
+-- for its password and its field.
 IsPasswordAnswer_from_IsSettled : (kind : Kind) (job : Job) (number : ℕ) (line : List ℕ) (stream : Stream) (name password : List ℕ) (stored : Option StoredField)
     (hashings : List Hashing) (outcome : Outcome) → IsLine kind line name password stored
     → ¬ IsAbove job.budget (field_cost job stored (length password))
@@ -225,8 +225,8 @@ IsPasswordAnswer_from_IsSettled kind job number line stream name password stored
     let comes = ComesTo_from_IsSettled kind job line stream name password is.field stored hashings outcome is.taken is.field_of within settled in
     inr (inr (is.taken.sound, comes.0, parts_with name password is.field, is.taken.cut, outcome, comes.1, refl))
 
--- If the step for a password and a field returned this result, the result is right for a line to hash or to check that
--- breaks no rule and has this password and this field.
+-- If `Settles` holds for a password and a field, `Concludes` holds for each line to hash or to check that breaks no
+-- rule and has this password and this field.
 pub Concludes_from_Settles : (kind : Kind) (job : Job) (line name password : List ℕ) (stored : Option StoredField) (stream : Stream) (before after : Work) (new_stream : Stream)
     (result : Result (Result Outcome LineFault) HashFault) → IsLine kind line name password stored
     → Settles job password stored stream before after new_stream result → Concludes kind job line name stream before after new_stream result

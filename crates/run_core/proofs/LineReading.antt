@@ -191,7 +191,7 @@ module _ {I : Type 0} where
   IsUnfailed-fetched now new fetched left true got = got.0
   IsUnfailed-fetched now new fetched left false got = got.0
 
-  -- After a `fetch`, the counts have room for the I/O calls that are left.
+  -- After a `fetch`, `HasRoomFor` holds for the I/O calls that are left.
   pub HasRoomFor-fetched : (now new : Device I) (fetched : List ℕ) (left new_left : ℕ) (found : Bool) → HasRoomFor piece_size left now → Reads now new fetched
       → FetchesPiece left now new fetched (Ok found) → length fetched ≤ piece_size → 0 < left → new_left ≡ left - 1 → new.calls + new_left ≡ now.calls + left
       → HasRoomFor piece_size new_left new

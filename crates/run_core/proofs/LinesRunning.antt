@@ -2,8 +2,8 @@
 -- the loop is `IsRunning`: each line that the reader has returned is answered, the outputs have taken these answers and
 -- nothing else, and no count can overflow in the rest of the run. `IsRunning-start` shows that it holds at first, and
 -- `IsRunning-answered` that it still holds when one more answer is written. For each exit of the loop, a lemma shows
--- `RunsLines`: reading stopped, scrypt could not allocate memory, an answer was cut short, or all lines are answered
--- and the outputs are flushed or not.
+-- `RunsLines`: reading stopped, scrypt could not allocate memory, an answer was written only in part, or all lines are
+-- answered and both outputs were flushed, or a flush failed.
 use Rattle.std.proofs.Common.{◌≡◌, ℕ, ◌+◌, ◌*◌, ◌^◌, ◌≤◌, ◌<◌, ◌⊎◌, Bool, true, false, MatchBool, List, [], ◌∷◌, ◌++◌, length, Result, Ok, Err, refl, sym, ap, subst, ◌∙◌, add-zero, append-nil, arith, inl, inr}
 use Rattle.std.specs.Io.KnownBytes.{IsAtEnd}
 use Rattle.std.proofs.Math.Nat.{mul-le-mul_left}
@@ -37,9 +37,9 @@ use Rattle.run_core.proofs.LineReading.{HasGiven-nil}
 use Rattle.run_core.proofs.MovedBytes.{MovesBytes-none, MovesBytes-trans}
 use Rattle.run_core.proofs.SentTexts.{Takes-trans, TakesFront-after, Takes-nil}
 
--- ---- room for counts
+-- ---- counts that cannot overflow
 
--- If the counts have room for some I/O calls, they have room for fewer.
+-- If `HasRoomFor` holds for some number of I/O calls, it holds for any smaller number.
 pub HasRoomFor-fewer : {T : Type 0} (size left fewer : ℕ) (device : Device T) → fewer ≤ left → HasRoomFor size left device → HasRoomFor size fewer device
 HasRoomFor-fewer size left fewer device less room = record {
   failures = room.failures;
@@ -206,8 +206,8 @@ module _ {I O E : Type 0} where
 -- In this module, the run has called `next_line`, after which the input is `input`, and `mid` I/O calls are left.
 module _ {I O E : Type 0} {turns : ℕ} {kind : Kind} {job : Job} {start old : RunState I O E} {reader : LineReader} {tally : Tally} {left : ℕ}
     (running : IsRunning turns kind job start old reader tally left) (input : Device I) (mid : ℕ) (read_calls : input.calls + mid ≡ old.input.calls + left) where
-  -- The run is within its limits if the outputs made no more I/O calls after the read than were left, and at most one
-  -- call of the whole run failed.
+  -- The run is within its limits if at most one of all its calls failed, all others but one read moved a byte, and the
+  -- outputs made no more I/O calls after `next_line` than were left.
   IsWithinTurns-after_read : (new_left : ℕ) (new : RunState I O E) → MovesBytes 1 start.input new.input → MovesBytes 0 old.out new.out → MovesBytes 0 old.faults new.faults
       → failures_of new ≤ failures_of start + 1 → new.input.calls ≡ input.calls
       → new.out.calls + new.faults.calls + new_left ≡ old.out.calls + old.faults.calls + mid → IsWithinTurns turns start new

@@ -27,7 +27,7 @@ module _ {T : Type 0} where
   Delivers turns old new text (Err fault) = ((fault ≡ Write) × TakesFront 1 old new [] text)
       ⊎ ((fault ≡ Turns) × TakesFront 0 old new [] text × (new.calls ≡ old.calls + turns))
 
-  -- IsKept old new: the device has the same contents and counts, except perhaps the counts of flushes and failures.
+  -- IsKept old new: the device has the same contents, and the same counts of calls, bytes and idle calls.
   pub record IsKept (old new : Device T) : Type 0 where
     pub shown : Keeps old.shown new.shown
     pub calls : new.calls ≡ old.calls

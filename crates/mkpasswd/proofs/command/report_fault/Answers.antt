@@ -1,4 +1,5 @@
--- `report_fault` writes the line that reports the error, in at most as many calls as this line has bytes (`told`).
+-- Proves the clause `told` of `report_fault`: it writes the line that reports the error, in at most as many calls as
+-- this line has bytes.
 use Rattle.std.proofs.Common.{◌∙◌, ap, length, sym}
 use Rattle.mkpasswd.proofs.ServedCommands.{IsTold_from_Shows}
 use Rattle.mkpasswd.proofs.command.report_fault.Goals as goal

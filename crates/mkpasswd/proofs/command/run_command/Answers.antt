@@ -1,6 +1,6 @@
--- The clauses of `run_command`: `serves` follows from what the function's steps promise (ServedCommands), `whole` from
--- `serves` (WholeCommands), and `prints` from `whole` (PrintedHash). Each clause has three cases: the run ended with a
--- tally, the plan could not be run or its run ended with an error, or the arguments were refused.
+-- Proves the clauses of `run_command`: `serves` follows from what the called functions promise (ServedCommands),
+-- `whole` from `serves` (WholeCommands), and `prints` from `whole` (PrintedHash). Each clause has three cases: the run
+-- ended with a tally, the plan could not be run or its run ended with an error, or the arguments were refused.
 use Rattle.std.proofs.Common.{None, false, refl}
 use Rattle.mkpasswd.proofs.PrintedHash.{PrintsHash_from_EndsWhole}
 use Rattle.mkpasswd.proofs.ServedCommands.{Serves-run_fault, Serves-refusal, Serves-run}

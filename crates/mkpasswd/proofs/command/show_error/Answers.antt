@@ -1,6 +1,6 @@
--- The clause of `show_error` where the message of `clap`'s error was made. The function wrote a message about the
--- arguments, or help or the version, or failed to write help or the version. `use_stderr` decides which output it wrote
--- to, and the status follows from the kind of the error.
+-- Proves the clause of `show_error` where `text_of` returned the message of `clap`'s error. The function wrote a
+-- message about the arguments, or help or the version, or failed to write help or the version. `use_stderr` decides
+-- which output it wrote to, and the status follows from the kind of the error.
 use Rattle.std.proofs.Common.{◌≢◌, ◌∙◌, true≢false, Ok, Err, refl, sym}
 use Rattle.clap.specs.Words.{kind_of}
 use Rattle.clap.specs.declared.error.kind.ErrorKind.TheVariants as kind

@@ -1,5 +1,5 @@
--- The clause of `show_refusal`: it reports `clap`'s error as `show_error` promises, and every other refusal as
--- `report_fault` promises.
+-- Proves the clause of `show_refusal`, which reports `clap`'s error as `show_error` promises, and every other refusal
+-- as `report_fault` promises.
 use Rattle.mkpasswd.proofs.ServedCommands.{RefusalShown-told}
 use Rattle.mkpasswd.proofs.command.show_refusal.Goals as goal
 

@@ -1,6 +1,6 @@
--- The clause of `plan` if `parse` fails or `Maker::new` refuses. If `parse` fails, the error is a refusal by `clap` or
--- a failed allocation. If `Maker::new` refuses, the arguments break no earlier rule, and its error is that of the first
--- rule that they break (PlannedMeaning).
+-- Proves the clause of `plan` where `parse` or `Maker::new` returns an error. If `parse` fails, the error is a refusal
+-- by `clap` or a failed allocation. If `Maker::new` refuses, the arguments break no earlier rule, and its error is that
+-- of the first rule that they break (PlannedMeaning).
 use Rattle.std.proofs.Common.{◌≡◌, ◌≢◌, ◌∙◌, Err, List, codes, inr, subst, sym, true≢false}
 use Rattle.std.proofs.lemmas.Slice.Eq.{bytes_eq-Decides}
 use Rattle.std.proofs.lemmas.Result.{err_from_is_err_and}
