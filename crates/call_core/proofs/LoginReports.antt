@@ -10,7 +10,7 @@ use Rattle.std.specs.Prelude.{IsTrue, MatchBool}
 use Rattle.std.specs.Str.{bytes_eq}
 use Rattle.prims_core.specs.Work.{no_work}
 use Rattle.prims_core.specs.declared.meter.Work.{Work}
-use Rattle.crypt_core.specs.Crypt.{IsAfterRefusedGrowth, allocates, crypt}
+use Rattle.crypt_core.specs.Crypt.{IsAfterFailedAllocation, allocates, crypt}
 use Rattle.crypt_core.specs.Passwords.{IsPassword, IsPasswordRefused}
 use Rattle.crypt_core.specs.OutdatedSchemes.{is_outdated_by}
 use Rattle.crypt_core.specs.Settings.{SettingValue, Spells}
@@ -63,10 +63,10 @@ is_outdated_by-eq kept other scheme also same made is = rw (same, made) is
 -- ---- The report of a login agrees with that of mkpasswd_verify
 
 -- If an allocation failed, the scheme is one that allocates.
-allocates-refused_growth : (scheme : Scheme) (done : Work) → IsAfterRefusedGrowth no_work scheme done → allocates scheme ≡ true
-allocates-refused_growth (Scrypt params) done lacks = refl
-allocates-refused_growth Md5crypt done never = absurd never
-allocates-refused_growth (Shacrypt sha rounds) done never = absurd never
+allocates-failed_allocation : (scheme : Scheme) (done : Work) → IsAfterFailedAllocation no_work scheme done → allocates scheme ≡ true
+allocates-failed_allocation (Scrypt params) done lacks = refl
+allocates-failed_allocation Md5crypt done never = absurd never
+allocates-failed_allocation (Shacrypt sha rounds) done never = absurd never
 
 -- Making the dummy hash does not change the cost in the report of a refusal.
 cost-Declines : (password : List ℕ) (kept : SettingValue) (budget : ℕ) (refusal report : Report)
@@ -74,7 +74,7 @@ cost-Declines : (password : List ℕ) (kept : SettingValue) (budget : ℕ) (refu
 cost-Declines password kept budget refusal report declines = go (nat_lt budget (cost kept (length password))) declines where
   go : (above : Bool) → MatchBool above (report ≡ refusal)
       ((report ≡ record refusal { work = work password kept })
-      ⊎ ((done : Work) × IsAfterRefusedGrowth no_work kept.scheme done × (report ≡ record refusal { error = (reason_row OutOfMemory).0; work = done })))
+      ⊎ ((done : Work) × IsAfterFailedAllocation no_work kept.scheme done × (report ≡ record refusal { error = (reason_row OutOfMemory).0; work = done })))
       → report.cost ≡ refusal.cost
   go true e = ap (λ (r : Report). r.cost) e
   go false (inl e) = ap (λ (r : Report). r.cost) e
@@ -88,11 +88,11 @@ error-Declines : (password : List ℕ) (kept : SettingValue) (budget : ℕ) (ref
 error-Declines password kept budget refusal report declines = go (nat_lt budget (cost kept (length password))) declines where
   go : (above : Bool) → MatchBool above (report ≡ refusal)
       ((report ≡ record refusal { work = work password kept })
-      ⊎ ((done : Work) × IsAfterRefusedGrowth no_work kept.scheme done × (report ≡ record refusal { error = (reason_row OutOfMemory).0; work = done })))
+      ⊎ ((done : Work) × IsAfterFailedAllocation no_work kept.scheme done × (report ≡ record refusal { error = (reason_row OutOfMemory).0; work = done })))
       → (report.error ≡ refusal.error) ⊎ ((report.error ≡ (reason_row OutOfMemory).0) × (allocates kept.scheme ≡ true))
   go true e = inl (ap (λ (r : Report). r.error) e)
   go false (inl e) = inl (ap (λ (r : Report). r.error) e)
-  go false (inr (done, lacks, e)) = inr (ap (λ (r : Report). r.error) e, allocates-refused_growth kept.scheme done lacks)
+  go false (inr (done, lacks, e)) = inr (ap (λ (r : Report). r.error) e, allocates-failed_allocation kept.scheme done lacks)
 
 -- The work in the report of a login that can't check the stored hash is that of the dummy hash, or none if the dummy
 -- hash can cost more than the budget (`IsHashWork`).
@@ -101,12 +101,12 @@ work-Declines : (password : List ℕ) (kept : SettingValue) (budget : ℕ) (refu
 work-Declines password kept budget refusal report idle declines = go (nat_lt budget (cost kept (length password))) declines where
   go : (above : Bool) → MatchBool above (report ≡ refusal)
       ((report ≡ record refusal { work = work password kept })
-      ⊎ ((done : Work) × IsAfterRefusedGrowth no_work kept.scheme done × (report ≡ record refusal { error = (reason_row OutOfMemory).0; work = done })))
-      → MatchBool above (report.work ≡ no_work) ((report.work ≡ work password kept) ⊎ IsAfterRefusedGrowth no_work kept.scheme report.work)
+      ⊎ ((done : Work) × IsAfterFailedAllocation no_work kept.scheme done × (report ≡ record refusal { error = (reason_row OutOfMemory).0; work = done })))
+      → MatchBool above (report.work ≡ no_work) ((report.work ≡ work password kept) ⊎ IsAfterFailedAllocation no_work kept.scheme report.work)
   go true e = ap (λ (r : Report). r.work) e ∙ idle
   go false (inl e) = inl (ap (λ (r : Report). r.work) e)
   go false (inr (done, lacks, e)) =
-      inr (subst (λ (w : Work). IsAfterRefusedGrowth no_work kept.scheme w) (sym (ap (λ (r : Report). r.work) e)) lacks)
+      inr (subst (λ (w : Work). IsAfterFailedAllocation no_work kept.scheme w) (sym (ap (λ (r : Report). r.work) e)) lacks)
 
 -- A login that can't check the stored hash agrees with mkpasswd_verify, which reports the refusal.
 Agrees_from_Declines : (password : List ℕ) (scheme : Scheme) (budget : ℕ) (reason : Reason) (most : ℕ) (report : Report)
@@ -195,12 +195,12 @@ spent-no_work (Shacrypt sha rounds) = refl
 spent-no_work (Scrypt params) = omega arith
 
 -- Allocations before one that failed cost nothing, since `spent` counts only bytes digested and mixed.
-spent-refused_growth : (scheme : Scheme) (done : Work) → IsAfterRefusedGrowth no_work scheme done → spent scheme done ≡ 0
-spent-refused_growth (Scrypt params) done (inl e) = rw e (spent-no_work (Scrypt params))
-spent-refused_growth (Scrypt params) done (inr (inl e)) = rw e (spent-no_work (Scrypt params))
-spent-refused_growth (Scrypt params) done (inr (inr e)) = rw e (spent-no_work (Scrypt params))
-spent-refused_growth Md5crypt done never = absurd never
-spent-refused_growth (Shacrypt sha rounds) done never = absurd never
+spent-failed_allocation : (scheme : Scheme) (done : Work) → IsAfterFailedAllocation no_work scheme done → spent scheme done ≡ 0
+spent-failed_allocation (Scrypt params) done (inl e) = rw e (spent-no_work (Scrypt params))
+spent-failed_allocation (Scrypt params) done (inr (inl e)) = rw e (spent-no_work (Scrypt params))
+spent-failed_allocation (Scrypt params) done (inr (inr e)) = rw e (spent-no_work (Scrypt params))
+spent-failed_allocation Md5crypt done never = absurd never
+spent-failed_allocation (Shacrypt sha rounds) done never = absurd never
 
 -- The work that `IsHashWork` allows under a budget costs at most the budget. If the hash can cost more, there is no
 -- work.
@@ -208,13 +208,13 @@ spent-le-budget : (password : List ℕ) (kept : SettingValue) (budget : ℕ) (do
     → spent kept.scheme done ≤ budget
 spent-le-budget password kept budget done hashed = go (nat_lt budget (cost kept (length password))) refl hashed where
   go : (above : Bool) → nat_lt budget (cost kept (length password)) ≡ above
-      → MatchBool above (done ≡ no_work) ((done ≡ work password kept) ⊎ IsAfterRefusedGrowth no_work kept.scheme done)
+      → MatchBool above (done ≡ no_work) ((done ≡ work password kept) ⊎ IsAfterFailedAllocation no_work kept.scheme done)
       → spent kept.scheme done ≤ budget
   go true e none = rw (none, spent-no_work kept.scheme) (omega arith)
   go false e (inl is) =
       let low : cost kept (length password) ≤ budget = grind (arith, e) in
       rw is (omega (arith, spent-work kept.scheme password kept.salt, low))
-  go false e (inr refused) = rw (spent-refused_growth kept.scheme done refused) (omega arith)
+  go false e (inr refused) = rw (spent-failed_allocation kept.scheme done refused) (omega arith)
 
 work-compared : (equal : Bool) (outdated most : ℕ) (misses : Reason) (counts : Work)
     → (if equal then found outdated most counts else failed misses most counts).work ≡ counts
@@ -234,7 +234,7 @@ IsHashWork-checked false password field budget scheme kept outdated report e (mi
     ∙ work-compared (bytes_eq (crypt password kept) field) outdated (cost kept (length password)) misses (work password kept))))
 IsHashWork-checked false password field budget scheme kept outdated report e (misses, miss, inr (done, lacks, told)) =
     let same : report.work ≡ done = ap (λ (r : Report). r.work) told in
-    inr (rw e (inr (subst (λ (w : Work). IsAfterRefusedGrowth no_work kept.scheme w) (sym same) lacks)))
+    inr (rw e (inr (subst (λ (w : Work). IsAfterFailedAllocation no_work kept.scheme w) (sym same) lacks)))
 
 -- The work of a login is none, or that of one hash that costs at most the budget (`IsLoginWork`).
 pub IsLoginWork_from_LogsIn : (password field : List ℕ) (number rounds budget : ℕ) (report : Report) → LogsIn password field number rounds budget report

@@ -12,7 +12,7 @@ use Rattle.std.proofs.lemmas.Bool.Decides.{nat_tests}
 use Rattle.std.proofs.Math.Nat.{mul-le-mul_right}
 use Rattle.prims_core.specs.Work.{no_work}
 use Rattle.prims_core.specs.declared.meter.Work.{Work}
-use Rattle.crypt_core.specs.Crypt.{IsAfterRefusedGrowth}
+use Rattle.crypt_core.specs.Crypt.{IsAfterFailedAllocation}
 use Rattle.crypt_core.specs.MadeSettings.{made_scheme, salted}
 use Rattle.crypt_core.specs.Methods.{method_row}
 use Rattle.crypt_core.specs.Passwords.{password_limit}
@@ -90,7 +90,7 @@ cost-salted scheme numbers len = ap (cost_by scheme len) (length-made_salt numbe
 -- If the policy's limit admits a new hash of a password, the dummy hash is made, unless scrypt lacks memory.
 pub decoy_work-policy_limit : (password : List ℕ) (scheme : Scheme) (limit : ℕ) (done : Work) → limit ≡ policy_limit scheme
     → new_cost scheme (length password) ≤ policy_limit scheme → IsHashWork password (decoy scheme) limit done
-    → (done ≡ work password (decoy scheme)) ⊎ IsAfterRefusedGrowth no_work scheme done
+    → (done ≡ work password (decoy scheme)) ⊎ IsAfterFailedAllocation no_work scheme done
 decoy_work-policy_limit password scheme limit done is within hashed =
     let below : nat_lt limit (new_cost scheme (length password)) ≡ false = grind (arith, is, within) in
     let test : nat_lt limit (cost (decoy scheme) (length password)) ≡ false =

@@ -5,7 +5,7 @@
 use Rattle.std.specs.Prelude.{◌≡◌, ◌≢◌, ◌⊎◌, ◌↔◌, ◌<◌, ◌≤◌, ◌+◌, ◌*◌, if◌then◌else◌, ℕ, ℤ, pos, nat_lt, true, MatchBool, List, [], ◌∷◌, length, Err}
 use Rattle.prims_core.specs.Work.{no_work}
 use Rattle.prims_core.specs.declared.meter.Work.{Work}
-use Rattle.crypt_core.specs.Crypt.{IsAfterRefusedGrowth, allocates}
+use Rattle.crypt_core.specs.Crypt.{IsAfterFailedAllocation, allocates}
 use Rattle.crypt_core.specs.MadeSettings.{salted}
 use Rattle.crypt_core.specs.Passwords.{IsPassword, IsPasswordRefused}
 use Rattle.crypt_core.specs.OutdatedSchemes.{is_outdated_by}
@@ -36,7 +36,7 @@ abbrev pub IsHashWork : List ℕ → SettingValue → ℕ → Work → Type 0
 IsHashWork password kept budget done =
     MatchBool (nat_lt budget (cost kept (length password)))
     (done ≡ no_work)
-    ((done ≡ work password kept) ⊎ IsAfterRefusedGrowth no_work kept.scheme done)
+    ((done ≡ work password kept) ⊎ IsAfterFailedAllocation no_work kept.scheme done)
 
 -- Declines password kept budget refusal report: the report of a login that can't check the stored hash, and instead
 -- makes and drops a hash with this setting. The report is the refusal with the work of that hash. If scrypt lacked
@@ -47,7 +47,7 @@ Declines password kept budget refusal report =
     MatchBool (nat_lt budget (cost kept (length password)))
     (report ≡ refusal)
     ((report ≡ record refusal { work = work password kept })
-    ⊎ ((done : Work) × IsAfterRefusedGrowth no_work kept.scheme done
+    ⊎ ((done : Work) × IsAfterFailedAllocation no_work kept.scheme done
     × (report ≡ record refusal { error = (reason_row OutOfMemory).0; work = done })))
 
 -- IsMiss field kept reason: the reason to report if a password doesn't match the stored hash: Dead if the hash is not
@@ -149,7 +149,7 @@ pub record TreatsFieldsAlike (password field : List ℕ) (number rounds budget :
       → (report.work ≡ work password (decoy scheme)) ⊎ (report.error ≡ (reason_row OutOfMemory).0)
   pub decoy_made : (scheme : Scheme) → IsSchemeMade TakesNewRounds number rounds scheme → budget ≡ twice → IsPassword password
       → new_cost scheme (length password) ≤ policy_limit scheme → IsUncheckable password field (policy_limit scheme)
-      → (report.work ≡ work password (decoy scheme)) ⊎ IsAfterRefusedGrowth no_work scheme report.work
+      → (report.work ≡ work password (decoy scheme)) ⊎ IsAfterFailedAllocation no_work scheme report.work
   pub decoy : (scheme : Scheme) → IsSchemeMade TakesNewRounds number rounds scheme → IsPassword password
       → IsUncheckable password field (limit_of number rounds budget (length password))
       → IsHashWork password (decoy scheme) (limit_of number rounds budget (length password)) report.work

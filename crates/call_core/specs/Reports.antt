@@ -3,7 +3,7 @@ use Rattle.std.specs.Prelude.{◌≡◌, ◌⊎◌, ◌↔◌, ◌<◌, ℕ, ℤ
 use Rattle.std.specs.Str.{bytes_eq}
 use Rattle.prims_core.specs.Work.{no_work}
 use Rattle.prims_core.specs.declared.meter.Work.{Work}
-use Rattle.crypt_core.specs.Crypt.{IsAfterRefusedGrowth}
+use Rattle.crypt_core.specs.Crypt.{IsAfterFailedAllocation}
 use Rattle.crypt_core.specs.Settings.{SettingValue}
 use Rattle.call_core.specs.Reasons.{reason_row}
 use Rattle.call_core.specs.declared.reason.Reason.{Reason}
@@ -37,7 +37,7 @@ found outdated most counts = record (succeeded 0 most counts) { outdated = outda
 -- little. Its work is that of the allocations before the one that failed. No other scheme needs memory.
 abbrev pub LacksMemory : SettingValue → ℕ → Report → Type 0
 LacksMemory kept most report =
-    (done : Work) × IsAfterRefusedGrowth no_work kept.scheme done × (report ≡ failed OutOfMemory most done)
+    (done : Work) × IsAfterFailedAllocation no_work kept.scheme done × (report ≡ failed OutOfMemory most done)
 
 -- put text old: the caller's bytes after a call wrote a string to them: as much of it as fits before a zero byte, that
 -- byte, and then the old bytes unchanged. If there are no bytes, nothing is written.
