@@ -14,7 +14,7 @@ use Rattle.call_core.specs.Rehashes.{IsOutdated}
 use Rattle.call_core.specs.Reports.{Answers}
 use Rattle.call_core.specs.declared.report.Report.{Report}
 use Rattle.call_core.proofs.LoginReports as reports
-use Rattle.call_core.proofs.PolicyLimits.{limit_by-policy_limit, decoy_work-policy_limit, limit_in-allowance, limit_by-zero, IsLoginWork-zero_limit, not_Opens-zero_limit}
+use Rattle.call_core.proofs.PolicyLimits.{limit_by-policy_limit, dummy_work-policy_limit, limit_in-allowance, limit_by-zero, IsLoginWork-zero_limit, not_Opens-zero_limit}
 
 -- A call whose error isn't 0 returns 0.
 Answers-zero : (result : ℤ) (report : Report) → Answers result report → (report.error ≢ 0) → result ≡ pos 0
@@ -57,12 +57,12 @@ TreatsFieldsAlike_from_LogsIn password field number rounds budget result report 
     let one_hash = reports.IsLoginWork_from_LogsIn password field number rounds limit report logged in
     record {
       one_hash = one_hash;
-      decoy_lacks = λ scheme made valid never low. reports.decoy_work-or_no_memory password field number rounds limit scheme report made valid never logged low;
-      decoy_made = λ scheme made policy valid within never.
+      dummy_lacks = λ scheme made valid never low. reports.dummy_work-or_no_memory password field number rounds limit scheme report made valid never logged low;
+      dummy_made = λ scheme made policy valid within never.
           let admits = limit_by-policy_limit scheme len limit (limit_of-policy number rounds budget len scheme made policy) valid.0 within in
-          decoy_work-policy_limit password scheme limit report.work admits within
-          (reports.decoy_work-IsUncheckable password field number rounds limit scheme report made valid (rw (← admits) at never) logged);
-      decoy = λ scheme made valid never. reports.decoy_work-IsUncheckable password field number rounds limit scheme report made valid never logged;
+          dummy_work-policy_limit password scheme limit report.work admits within
+          (reports.dummy_work-IsUncheckable password field number rounds limit scheme report made valid (rw (← admits) at never) logged);
+      dummy = λ scheme made valid never. reports.dummy_work-IsUncheckable password field number rounds limit scheme report made valid never logged;
       alike = λ fault broken. reports.report-password_refused password field number rounds limit fault report broken logged;
       alike_rounds = λ reason valid reading.
           reports.report-rounds_refused password field number rounds limit reason report valid reading logged;

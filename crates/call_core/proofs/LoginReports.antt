@@ -32,14 +32,14 @@ use Rattle.call_core.specs.declared.reason.Reason.TheVariants.{Dead, OutOfMemory
 use Rattle.call_core.specs.declared.report.Report.{Report}
 use Rattle.call_core.proofs.MadeSchemes.{IsSchemeMade-unique, IsSchemeMade-not_refused}
 use Rattle.call_core.proofs.ReasonNumbers.{reason_row-nonzero, reason_row-unique}
-use Rattle.call_core.specs.Logins.{Agrees, Declines, IsHashWork, IsLoginWork, IsMiss, IsUncheckable, LogsIn, decoy, spent}
+use Rattle.call_core.specs.Logins.{Agrees, Declines, IsHashWork, IsLoginWork, IsMiss, IsUncheckable, LogsIn, dummy, spent}
 
 -- ---- The report in each branch of a login
 
 -- `LogsIn` holds of the report of a login that can't check the stored hash, and makes and drops the dummy hash.
 pub LogsIn-declined : (password field : List ℕ) (number rounds budget : ℕ) (scheme : Scheme) (refusal report : Report)
     → IsPassword password → IsSchemeMade TakesNewRounds number rounds scheme → IsCheckRefused password field budget refusal
-    → Declines password (decoy scheme) budget refusal report → LogsIn password field number rounds budget report
+    → Declines password (dummy scheme) budget refusal report → LogsIn password field number rounds budget report
 LogsIn-declined password field number rounds budget scheme refusal report is makes (inl (first, refused, e)) declines =
     inl (is, inl (scheme, makes, inr (first, refused, rw e at declines)))
 LogsIn-declined password field number rounds budget scheme refusal report is makes (inr (kept, spells, above, e)) declines =
@@ -110,10 +110,10 @@ work-Declines password kept budget refusal report idle declines = go (nat_lt bud
 
 -- A login that can't check the stored hash agrees with mkpasswd_verify, which reports the refusal.
 Agrees_from_Declines : (password : List ℕ) (scheme : Scheme) (budget : ℕ) (reason : Reason) (most : ℕ) (report : Report)
-    → Declines password (decoy scheme) budget (refused reason most) report → Agrees scheme report (refused reason most)
+    → Declines password (dummy scheme) budget (refused reason most) report → Agrees scheme report (refused reason most)
 Agrees_from_Declines password scheme budget reason most report declines = (
-  cost-Declines password (decoy scheme) budget (refused reason most) report declines,
-  elim (error-Declines password (decoy scheme) budget (refused reason most) report declines) [
+  cost-Declines password (dummy scheme) budget (refused reason most) report declines,
+  elim (error-Declines password (dummy scheme) budget (refused reason most) report declines) [
     | inl same ↦ inl same
     | inr lacks ↦ inr (inr (lacks.0, lacks.1, reason_row-nonzero reason, refl))
   ],
@@ -134,7 +134,7 @@ Agrees-compared scheme true outdated misses most counts report miss e = rw e (re
 
 -- For a field that spells a setting, the report of a login agrees with one that mkpasswd_verify can have.
 Agrees-checked : (over equal : Bool) (outdated : ℕ) (password field : List ℕ) (budget most : ℕ) (scheme : Scheme) (kept : SettingValue) (report : Report)
-    → MatchBool over (Declines password (decoy scheme) budget (refused OverBudget most) report)
+    → MatchBool over (Declines password (dummy scheme) budget (refused OverBudget most) report)
     ((misses : Reason) × IsMiss field kept misses
     × ((report ≡ (if equal then found outdated most (work password kept) else failed misses most (work password kept)))
     ⊎ LacksMemory kept most report))
@@ -224,11 +224,11 @@ work-compared false outdated most misses counts = refl
 -- For a field that spells a setting, the work of a login is that of the dummy hash or of a hash with that setting.
 IsHashWork-checked : (above : Bool) (password field : List ℕ) (budget : ℕ) (scheme : Scheme) (kept : SettingValue) (outdated : ℕ) (report : Report)
     → nat_lt budget (cost kept (length password)) ≡ above
-    → MatchBool above (Declines password (decoy scheme) budget (refused OverBudget (cost kept (length password))) report)
+    → MatchBool above (Declines password (dummy scheme) budget (refused OverBudget (cost kept (length password))) report)
     ((misses : Reason) × IsMiss field kept misses × Compares password kept field outdated misses report)
-    → IsHashWork password (decoy scheme) budget report.work ⊎ IsHashWork password kept budget report.work
+    → IsHashWork password (dummy scheme) budget report.work ⊎ IsHashWork password kept budget report.work
 IsHashWork-checked true password field budget scheme kept outdated report e declines =
-    inl (work-Declines password (decoy scheme) budget _ report refl declines)
+    inl (work-Declines password (dummy scheme) budget _ report refl declines)
 IsHashWork-checked false password field budget scheme kept outdated report e (misses, miss, inl told) =
     inr (rw e (inl (ap (λ (r : Report). r.work) told
     ∙ work-compared (bytes_eq (crypt password kept) field) outdated (cost kept (length password)) misses (work password kept))))
@@ -243,12 +243,12 @@ IsLoginWork_from_LogsIn password field number rounds budget report (inr (fault, 
 IsLoginWork_from_LogsIn password field number rounds budget report (inl (is, inr (inl (none, e)))) = inl (ap (λ (r : Report). r.work) e)
 IsLoginWork_from_LogsIn password field number rounds budget report (inl (is, inr (inr (method, named, never, e)))) = inl (ap (λ (r : Report). r.work) e)
 IsLoginWork_from_LogsIn password field number rounds budget report (inl (is, inl (scheme, makes, inr (fault, broken, declines)))) =
-    let done = work-Declines password (decoy scheme) budget _ report refl declines in
-    inr (decoy scheme, inr (scheme, makes, refl), done, spent-le-budget password (decoy scheme) budget _ done)
+    let done = work-Declines password (dummy scheme) budget _ report refl declines in
+    inr (dummy scheme, inr (scheme, makes, refl), done, spent-le-budget password (dummy scheme) budget _ done)
 IsLoginWork_from_LogsIn password field number rounds budget report (inl (is, inl (scheme, makes, inl (kept, spells, checked)))) =
     elim (IsHashWork-checked (nat_lt budget (cost kept (length password))) password field budget scheme kept
     (if is_outdated_by kept.scheme scheme then 1 else 0) report refl checked) [
-      | inl new ↦ inr (decoy scheme, inr (scheme, makes, refl), new, spent-le-budget password (decoy scheme) budget _ new)
+      | inl new ↦ inr (dummy scheme, inr (scheme, makes, refl), new, spent-le-budget password (dummy scheme) budget _ new)
       | inr old ↦ inr (kept, inl spells, old, spent-le-budget password kept budget _ old)
     ]
 
@@ -257,39 +257,39 @@ IsLoginWork_from_LogsIn password field number rounds budget report (inl (is, inl
 pub Declines_from_LogsIn : (password field : List ℕ) (number rounds budget : ℕ) (scheme : Scheme) (report : Report)
     → IsSchemeMade TakesNewRounds number rounds scheme → IsPassword password → IsUncheckable password field budget
     → LogsIn password field number rounds budget report
-    → (refusal : Report) × (refusal.work ≡ no_work) × Declines password (decoy scheme) budget refusal report
+    → (refusal : Report) × (refusal.work ≡ no_work) × Declines password (dummy scheme) budget refusal report
 Declines_from_LogsIn password field number rounds budget scheme report makes is never (inr (TooLong, broken, e)) = absurd (omega (arith, is.0, broken))
 Declines_from_LogsIn password field number rounds budget scheme report makes is never (inr (HasNul, broken, e)) = absurd (is.1 broken.1)
 Declines_from_LogsIn password field number rounds budget scheme report makes is never (inl (also, inr (inl (none, e)))) = absurd (cc (none, makes.1))
 Declines_from_LogsIn password field number rounds budget scheme report makes is never (inl (also, inr (inr (method, named, not, e)))) =
     IsSchemeMade-not_refused number rounds scheme _ makes method named not
-Declines_from_LogsIn password field number rounds budget scheme report makes is never (inl (also, inl (other, made, inr (fault, broken, decoyed)))) =
+Declines_from_LogsIn password field number rounds budget scheme report makes is never (inl (also, inl (other, made, inr (fault, broken, declines)))) =
     let same : other ≡ scheme = IsSchemeMade-unique TakesNewRounds TakesNewRounds number rounds other scheme made makes in
-    (refused fault 0, refl, rw same at decoyed)
+    (refused fault 0, refl, rw same at declines)
 Declines_from_LogsIn password field number rounds budget scheme report makes is never (inl (also, inl (other, made, inl (kept, spells, checked)))) =
     let same : other ≡ scheme = IsSchemeMade-unique TakesNewRounds TakesNewRounds number rounds other scheme made makes in
     let above : nat_lt budget (cost kept (length password)) ≡ true = grind (arith, never kept spells) in
-    let decoyed = rw above at checked in
-    (refused OverBudget (cost kept (length password)), refl, rw same at decoyed)
+    let declines = rw above at checked in
+    (refused OverBudget (cost kept (length password)), refl, rw same at declines)
 
 -- If the other arguments are valid, the work of a login that can't check the stored hash is that of the dummy hash, or
 -- none if the dummy hash can cost more than the budget (`IsHashWork`).
-pub decoy_work-IsUncheckable : (password field : List ℕ) (number rounds budget : ℕ) (scheme : Scheme) (report : Report)
+pub dummy_work-IsUncheckable : (password field : List ℕ) (number rounds budget : ℕ) (scheme : Scheme) (report : Report)
     → IsSchemeMade TakesNewRounds number rounds scheme → IsPassword password → IsUncheckable password field budget
-    → LogsIn password field number rounds budget report → IsHashWork password (decoy scheme) budget report.work
-decoy_work-IsUncheckable password field number rounds budget scheme report makes is never logged =
+    → LogsIn password field number rounds budget report → IsHashWork password (dummy scheme) budget report.work
+dummy_work-IsUncheckable password field number rounds budget scheme report makes is never logged =
     let declined = Declines_from_LogsIn password field number rounds budget scheme report makes is never logged in
-    work-Declines password (decoy scheme) budget declined.0 report declined.1 declined.2
+    work-Declines password (dummy scheme) budget declined.0 report declined.1 declined.2
 
 -- If the other arguments are valid and the budget admits the dummy hash, a login that can't check the stored hash does
 -- all the work of the dummy hash, or the error is OutOfMemory.
-pub decoy_work-or_no_memory : (password field : List ℕ) (number rounds budget : ℕ) (scheme : Scheme) (report : Report)
+pub dummy_work-or_no_memory : (password field : List ℕ) (number rounds budget : ℕ) (scheme : Scheme) (report : Report)
     → IsSchemeMade TakesNewRounds number rounds scheme → IsPassword password → IsUncheckable password field budget
-    → LogsIn password field number rounds budget report → cost (decoy scheme) (length password) ≤ budget
-    → (report.work ≡ work password (decoy scheme)) ⊎ (report.error ≡ (reason_row OutOfMemory).0)
-decoy_work-or_no_memory password field number rounds budget scheme report makes is never logged low =
+    → LogsIn password field number rounds budget report → cost (dummy scheme) (length password) ≤ budget
+    → (report.work ≡ work password (dummy scheme)) ⊎ (report.error ≡ (reason_row OutOfMemory).0)
+dummy_work-or_no_memory password field number rounds budget scheme report makes is never logged low =
     let declined = Declines_from_LogsIn password field number rounds budget scheme report makes is never logged in
-    let within : nat_lt budget (cost (decoy scheme) (length password)) ≡ false = grind (arith, low) in
+    let within : nat_lt budget (cost (dummy scheme) (length password)) ≡ false = grind (arith, low) in
     elim (rw within at declined.2) [
       | inl e ↦ inl (ap (λ (r : Report). r.work) e)
       | inr refused ↦ inr (ap (λ (r : Report). r.error) refused.2)
@@ -350,13 +350,13 @@ IsDead-compared false outdated field kept misses most counts report spells (inr 
 -- If a login with a field that spells a setting reports Dead, the stored hash is dead.
 IsDead-checked : (above equal : Bool) (outdated : ℕ) (password field : List ℕ) (budget : ℕ) (scheme : Scheme) (kept : SettingValue) (report : Report)
     → Spells field kept
-    → MatchBool above (Declines password (decoy scheme) budget (refused OverBudget (cost kept (length password))) report)
+    → MatchBool above (Declines password (dummy scheme) budget (refused OverBudget (cost kept (length password))) report)
     ((misses : Reason) × IsMiss field kept misses
     × ((report ≡ (if equal then found outdated (cost kept (length password)) (work password kept) else failed misses (cost kept (length password)) (work password kept)))
     ⊎ LacksMemory kept (cost kept (length password)) report))
     → report.error ≡ (reason_row Dead).0 → IsDead field
 IsDead-checked true equal outdated password field budget scheme kept report spells declines told =
-    absurd (Declines-not_Dead password (decoy scheme) budget OverBudget _ report (λ same. absurd (cc same)) declines told)
+    absurd (Declines-not_Dead password (dummy scheme) budget OverBudget _ report (λ same. absurd (cc same)) declines told)
 IsDead-checked false equal outdated password field budget scheme kept report spells (misses, miss, inl e) told =
     IsDead-compared equal outdated field kept misses _ _ report spells miss e told
 IsDead-checked false equal outdated password field budget scheme kept report spells (misses, miss, inr (done, lacks, e)) told =
@@ -392,7 +392,7 @@ IsDead_from_LogsIn password field number rounds budget report (inl (is, inr (inl
 IsDead_from_LogsIn password field number rounds budget report (inl (is, inr (inr (method, named, never, e)))) told =
     absurd (error-not_Dead Rounds report (λ same. absurd (cc same)) (ap (λ (r : Report). r.error) e) told)
 IsDead_from_LogsIn password field number rounds budget report (inl (is, inl (scheme, makes, inr (reason, broken, declines)))) told =
-    absurd (Declines-not_Dead password (decoy scheme) budget reason 0 report (IsFieldRefusal-not_Dead field reason broken) declines told)
+    absurd (Declines-not_Dead password (dummy scheme) budget reason 0 report (IsFieldRefusal-not_Dead field reason broken) declines told)
 IsDead_from_LogsIn password field number rounds budget report (inl (is, inl (scheme, makes, inl (kept, spells, checked)))) told =
     IsDead-checked (nat_lt budget (cost kept (length password))) (bytes_eq (crypt password kept) field) (if is_outdated_by kept.scheme scheme then 1 else 0)
     password field budget scheme kept report spells checked told

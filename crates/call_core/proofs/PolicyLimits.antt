@@ -33,7 +33,7 @@ use Rattle.call_core.specs.Checks.{Opens}
 use Rattle.call_core.specs.Limits.{allowance, limit_by, limit_bytes, limit_in, method_limit, new_cost, policy_limit, takes_new_rounds}
 use Rattle.call_core.specs.declared.limit.Limit.{Limit}
 use Rattle.call_core.specs.declared.limit.Limit.TheVariants.{Policy, Bytes}
-use Rattle.call_core.specs.Logins.{IsHashWork, IsLoginWork, decoy}
+use Rattle.call_core.specs.Logins.{IsHashWork, IsLoginWork, dummy}
 use Rattle.call_core.proofs.MadeSchemes.{IsSchemeMade-unique}
 
 -- ---- The limit of a call
@@ -88,12 +88,12 @@ pub cost-salted : (scheme : Scheme) (numbers : List ℕ) (len : ℕ) → cost (s
 cost-salted scheme numbers len = ap (cost_by scheme len) (length-made_salt numbers (method_row (method_of scheme)).made_salt_length)
 
 -- If the policy's limit admits a new hash of a password, the dummy hash is made, unless scrypt lacks memory.
-pub decoy_work-policy_limit : (password : List ℕ) (scheme : Scheme) (limit : ℕ) (done : Work) → limit ≡ policy_limit scheme
-    → new_cost scheme (length password) ≤ policy_limit scheme → IsHashWork password (decoy scheme) limit done
-    → (done ≡ work password (decoy scheme)) ⊎ IsAfterFailedAllocation no_work scheme done
-decoy_work-policy_limit password scheme limit done is within hashed =
+pub dummy_work-policy_limit : (password : List ℕ) (scheme : Scheme) (limit : ℕ) (done : Work) → limit ≡ policy_limit scheme
+    → new_cost scheme (length password) ≤ policy_limit scheme → IsHashWork password (dummy scheme) limit done
+    → (done ≡ work password (dummy scheme)) ⊎ IsAfterFailedAllocation no_work scheme done
+dummy_work-policy_limit password scheme limit done is within hashed =
     let below : nat_lt limit (new_cost scheme (length password)) ≡ false = grind (arith, is, within) in
-    let test : nat_lt limit (cost (decoy scheme) (length password)) ≡ false =
+    let test : nat_lt limit (cost (dummy scheme) (length password)) ≡ false =
     ap (nat_lt limit) (cost-salted scheme (0 ∷ 0 ∷ 0 ∷ []) (length password)) ∙ below in
     rw test at hashed
 

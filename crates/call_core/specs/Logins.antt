@@ -25,10 +25,10 @@ use Rattle.call_core.specs.declared.reason.Reason.{Reason}
 use Rattle.call_core.specs.declared.reason.Reason.TheVariants.{Dead, OutOfMemory, OverBudget, WrongPassword}
 use Rattle.call_core.specs.declared.report.Report.{Report}
 
--- decoy scheme: the setting of the dummy hash, which a login makes and drops if it can't check the stored one. It is
+-- dummy scheme: the setting of the dummy hash, which a login makes and drops if it can't check the stored one. It is
 -- the setting of a new hash, with a fixed salt.
-abbrev pub decoy : Scheme → SettingValue
-decoy scheme = salted scheme (0 ∷ 0 ∷ 0 ∷ [])
+abbrev pub dummy : Scheme → SettingValue
+dummy scheme = salted scheme (0 ∷ 0 ∷ 0 ∷ [])
 
 -- IsHashWork password kept budget done: the work of a hash with this setting, or of scrypt's allocations before one
 -- failed. There is no work if the hash can cost more than the budget.
@@ -64,10 +64,10 @@ IsMiss field kept reason = ((reason ≡ WrongPassword) × IsWhole field kept) �
 abbrev pub LogsIn : List ℕ → List ℕ → ℕ → ℕ → ℕ → Report → Type 0
 LogsIn password field number rounds budget report =
     OnPassword password (Refuses report) (OnScheme TakesNewRounds number rounds (Refuses report) (λ scheme.
-    OnField field (λ reason. Declines password (decoy scheme) budget (refused reason 0) report) (λ kept.
+    OnField field (λ reason. Declines password (dummy scheme) budget (refused reason 0) report) (λ kept.
     let most = cost kept (length password) in
     MatchBool (nat_lt budget most)
-    (Declines password (decoy scheme) budget (refused OverBudget most) report)
+    (Declines password (dummy scheme) budget (refused OverBudget most) report)
     ((misses : Reason) × IsMiss field kept misses
     × Compares password kept field (if is_outdated_by kept.scheme scheme then 1 else 0) misses report))))
 
@@ -82,7 +82,7 @@ spent scheme done = done.bytes
 abbrev pub IsLoginWork : List ℕ → List ℕ → ℕ → ℕ → ℕ → Work → Type 0
 IsLoginWork password field number rounds budget done =
     (done ≡ no_work) ⊎ ((kept : SettingValue)
-    × (Spells field kept ⊎ ((scheme : Scheme) × IsSchemeMade TakesNewRounds number rounds scheme × (kept ≡ decoy scheme)))
+    × (Spells field kept ⊎ ((scheme : Scheme) × IsSchemeMade TakesNewRounds number rounds scheme × (kept ≡ dummy scheme)))
     × IsHashWork password kept budget done × (spent kept.scheme done ≤ budget))
 
 -- IsUncheckable password field budget: a login can't check the stored hash: the field spells no setting, or one whose
@@ -128,13 +128,13 @@ pub record JudgesStoredHash (password field : List ℕ) (number rounds budget : 
 
 -- TreatsFieldsAlike password field number rounds budget result report: what a login does alike for all fields, or for
 -- all that it can't check, both for C and for web pages. Its limit is `limit_of`. The clauses on the dummy hash
--- (`decoy`) are for a valid password, method and rounds. A dummy hash of scrypt can end at an allocation that fails.
+-- (`dummy`) are for a valid password, method and rounds. A dummy hash of scrypt can end at an allocation that fails.
 --   one_hash      the work is that of at most one hash, within the limit
---   decoy_lacks   for a field that can't be checked, the dummy hash is made if the limit admits it, or the error is
+--   dummy_lacks   for a field that can't be checked, the dummy hash is made if the limit admits it, or the error is
 --                 OutOfMemory
---   decoy_made    under a policy's limit that admits a new hash, the dummy hash is made for each field that can't be
+--   dummy_made    under a policy's limit that admits a new hash, the dummy hash is made for each field that can't be
 --                 checked
---   decoy         for a field that can't be checked, the work is that of the dummy hash if the limit admits it, and
+--   dummy         for a field that can't be checked, the work is that of the dummy hash if the limit admits it, and
 --                 otherwise none
 --   alike         an invalid password is refused with the same report for each field
 --   alike_rounds  with a valid password, a method or rounds that no new hash can have are refused with the same report
@@ -143,16 +143,16 @@ pub record JudgesStoredHash (password field : List ℕ) (number rounds budget : 
 --                 is not hashed
 pub record TreatsFieldsAlike (password field : List ℕ) (number rounds budget : ℕ) (result : ℤ) (report : Report) : Type 0 where
   pub one_hash : IsLoginWork password field number rounds (limit_of number rounds budget (length password)) report.work
-  pub decoy_lacks : (scheme : Scheme) → IsSchemeMade TakesNewRounds number rounds scheme → IsPassword password
+  pub dummy_lacks : (scheme : Scheme) → IsSchemeMade TakesNewRounds number rounds scheme → IsPassword password
       → IsUncheckable password field (limit_of number rounds budget (length password))
-      → cost (decoy scheme) (length password) ≤ limit_of number rounds budget (length password)
-      → (report.work ≡ work password (decoy scheme)) ⊎ (report.error ≡ (reason_row OutOfMemory).0)
-  pub decoy_made : (scheme : Scheme) → IsSchemeMade TakesNewRounds number rounds scheme → budget ≡ twice → IsPassword password
+      → cost (dummy scheme) (length password) ≤ limit_of number rounds budget (length password)
+      → (report.work ≡ work password (dummy scheme)) ⊎ (report.error ≡ (reason_row OutOfMemory).0)
+  pub dummy_made : (scheme : Scheme) → IsSchemeMade TakesNewRounds number rounds scheme → budget ≡ twice → IsPassword password
       → new_cost scheme (length password) ≤ policy_limit scheme → IsUncheckable password field (policy_limit scheme)
-      → (report.work ≡ work password (decoy scheme)) ⊎ IsAfterFailedAllocation no_work scheme report.work
-  pub decoy : (scheme : Scheme) → IsSchemeMade TakesNewRounds number rounds scheme → IsPassword password
+      → (report.work ≡ work password (dummy scheme)) ⊎ IsAfterFailedAllocation no_work scheme report.work
+  pub dummy : (scheme : Scheme) → IsSchemeMade TakesNewRounds number rounds scheme → IsPassword password
       → IsUncheckable password field (limit_of number rounds budget (length password))
-      → IsHashWork password (decoy scheme) (limit_of number rounds budget (length password)) report.work
+      → IsHashWork password (dummy scheme) (limit_of number rounds budget (length password)) report.work
   pub alike : (fault : PasswordFault) → IsPasswordRefused password fault → report ≡ refused (password_reason fault) 0
   pub alike_rounds : (reason : Reason) → IsPassword password → IsSchemeReading TakesNewRounds number rounds (Err reason)
       → report ≡ refused reason 0

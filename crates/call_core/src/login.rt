@@ -78,11 +78,11 @@ pub fn log_in<M: Memory>(
         }
         Err(refused) => {
             // The hash is dropped, so its salt need not be random.
-            let decoy = Setting::salted(request.scheme, [0; 3]);
+            let dummy = Setting::salted(request.scheme, [0; 3]);
             decline(
                 memory,
                 &request.password,
-                &decoy,
+                &dummy,
                 request.limit,
                 refused,
                 meter,
@@ -103,13 +103,13 @@ fn miss_of(stored: &StoredHash<'_>) -> Reason
     }
 }
 
-// Makes and drops a dummy hash with the setting `decoy`, if the budget allows it, and returns the refusal with the work
+// Makes and drops a dummy hash with the setting `dummy`, if the budget allows it, and returns the refusal with the work
 // of that hash. If scrypt gets no memory for the dummy hash, the call takes less time than a check, and the field's
 // error would hide that; so the error is `OutOfMemory` instead.
 fn decline<M: Memory>(
     memory: &mut M,
     password: &Password,
-    decoy: &Setting,
+    dummy: &Setting,
     budget: u64,
     refused: Report,
     meter: &mut Meter,
@@ -117,17 +117,17 @@ fn decline<M: Memory>(
     requires new { meter.old ≡ no_work }
     requires refused { (refused.error ≢ 0) × (refused.work ≡ no_work) }
     requires other { refused.error ≢ (reason_row Reason.OutOfMemory).0 }
-    ensures declines { Declines password.now decoy.now budget refused result }
-    ensures enough { (cost decoy.now (length password.now) ≤ budget → AreEnough (M.IsEnough memory.old) decoy.now.scheme)
+    ensures declines { Declines password.now dummy.now budget refused result }
+    ensures enough { (cost dummy.now (length password.now) ≤ budget → AreEnough (M.IsEnough memory.old) dummy.now.scheme)
         → result.error ≢ (reason_row Reason.OutOfMemory).0 }
     ensures refuses { (result.error ≢ 0) × (result.outdated ≡ refused.outdated) }
     ensures bytes { result.work.bytes ≤ budget }
     ensures counted { meter.new ≡ result.work }
 {
-    if cost_within(password, decoy, budget).is_err() {
+    if cost_within(password, dummy, budget).is_err() {
         return refused;
     }
-    let error = match hash_by(memory, password, decoy, meter) {
+    let error = match hash_by(memory, password, dummy, meter) {
         Ok(_) => refused.error,
         Err(_) => Reason::OutOfMemory.number(),
     };

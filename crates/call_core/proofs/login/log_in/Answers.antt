@@ -10,7 +10,7 @@ use Rattle.crypt_core.specs.Settings.{SettingValue}
 use Rattle.crypt_core.specs.Work.{cost}
 use Rattle.call_core.specs.Arguments.{TakesNewRounds}
 use Rattle.call_core.specs.Limits.{limit_in}
-use Rattle.call_core.specs.Logins.{IsMiss, decoy}
+use Rattle.call_core.specs.Logins.{IsMiss, dummy}
 use Rattle.call_core.specs.declared.reason.Reason.TheVariants.{Dead}
 use Rattle.call_core.proofs.CheckReports.{not_fits-IsDead}
 use Rattle.call_core.proofs.LoginReports.{LogsIn-compared, LogsIn-declined, is_outdated_by-eq, IsUncheckable-none_within}
@@ -21,7 +21,7 @@ pub returns-in-Err-checkable-clause-logs_in : goal.returns-in-Err-checkable-clau
 returns-in-Err-checkable-clause-logs_in g c =
     let password = c.in-Ok.ensures.password in
     rw (← c.in-Ok.ensures.limit) (LogsIn-declined c.args.password.now c.args.field.now c.args.method c.args.rounds (c.in-Ok.request).limit (c.in-Ok.request).scheme _ _ password.1 c.in-Ok.ensures.scheme
-    (rw password.0 at c.in-Err-checkable.ensures.refused) (rw (password.0, c.salted-decoy.ensures) at c.decline.ensures.declines))
+    (rw password.0 at c.in-Err-checkable.ensures.refused) (rw (password.0, c.salted-dummy.ensures) at c.decline.ensures.declines))
 
 pub returns-in-Ok-checkable-clause-logs_in : goal.returns-in-Ok-checkable-clause-logs_in
 returns-in-Ok-checkable-clause-logs_in g c =
@@ -118,5 +118,5 @@ returns-in-Err-checkable-clause-enough g c = λ enough lacks.
     let never = IsUncheckable-none_within c.args.password.now c.args.field.now limit (λ kept spells low.
     absurd (cc (c.in-Err-checkable.ensures.admits kept spells (rw (password.0, c.in-Ok.ensures.limit) low)))) in
     c.decline.ensures.enough (λ within.
-    let low : cost (decoy scheme) (length c.args.password.now) ≤ limit = rw (← c.in-Ok.ensures.limit) (rw (password.0, c.salted-decoy.ensures) at within) in
-    rw c.salted-decoy.ensures (enough (decoy scheme) (scheme, c.in-Ok.ensures.scheme, password.1, inr (never, refl), low))) lacks
+    let low : cost (dummy scheme) (length c.args.password.now) ≤ limit = rw (← c.in-Ok.ensures.limit) (rw (password.0, c.salted-dummy.ensures) at within) in
+    rw c.salted-dummy.ensures (enough (dummy scheme) (scheme, c.in-Ok.ensures.scheme, password.1, inr (never, refl), low))) lacks
