@@ -7,7 +7,7 @@ use Rattle.std.proofs.Common.{◌≡◌, ◌≢◌, ℕ, ℤ, pos, List, length,
 use Rattle.crypt_core.specs.declared.scheme.Scheme.{Scheme}
 use Rattle.call_core.specs.Arguments.{IsSchemeMade, TakesNewRounds}
 use Rattle.call_core.specs.Checks.{IsDead, Opens}
-use Rattle.call_core.specs.Limits.{limit_by, limit_of, twice}
+use Rattle.call_core.specs.Limits.{default_budget, limit_by, limit_of}
 use Rattle.call_core.specs.declared.limit.Limit.TheVariants.{Policy}
 use Rattle.call_core.specs.Logins.{JudgesStoredHash, LogsIn, TellsDead, TreatsFieldsAlike}
 use Rattle.call_core.specs.Rehashes.{IsOutdated}
@@ -25,7 +25,7 @@ Answers-zero result report answers never = elim answers.0 [
 
 -- With a budget of 0 and a valid method and rounds, the limit for a password of this length is that of the policy; it
 -- is 0 if the password is too long or its new hash is above the policy's limit (`limit_by`).
-pub limit_of-policy : (number rounds budget len : ℕ) (scheme : Scheme) → IsSchemeMade TakesNewRounds number rounds scheme → budget ≡ twice
+pub limit_of-policy : (number rounds budget len : ℕ) (scheme : Scheme) → IsSchemeMade TakesNewRounds number rounds scheme → budget ≡ default_budget
     → limit_of number rounds budget len ≡ limit_by scheme len
 limit_of-policy number rounds budget len scheme makes policy = rw policy (limit_in-allowance number rounds scheme Policy len makes)
 

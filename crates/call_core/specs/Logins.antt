@@ -17,7 +17,7 @@ use Rattle.crypt_core.specs.declared.scheme.Scheme.{Scheme}
 use Rattle.crypt_core.specs.declared.scheme.Scheme.TheVariants.{Scrypt}
 use Rattle.call_core.specs.Arguments.{IsSchemeMade, IsSchemeReading, OnField, OnPassword, OnScheme, Refuses, TakesNewRounds}
 use Rattle.call_core.specs.Checks.{Compares, IsDead, Verifies}
-use Rattle.call_core.specs.Limits.{limit_of, new_cost, policy_limit, twice}
+use Rattle.call_core.specs.Limits.{default_budget, limit_of, new_cost, policy_limit}
 use Rattle.call_core.specs.Reasons.{password_reason, reason_row}
 use Rattle.call_core.specs.Rehashes.{IsOutdated}
 use Rattle.call_core.specs.Reports.{failed, refused}
@@ -147,7 +147,7 @@ pub record TreatsFieldsAlike (password field : List ℕ) (number rounds budget :
       → IsUncheckable password field (limit_of number rounds budget (length password))
       → cost (dummy scheme) (length password) ≤ limit_of number rounds budget (length password)
       → (report.work ≡ work password (dummy scheme)) ⊎ (report.error ≡ (reason_row OutOfMemory).0)
-  pub dummy_made : (scheme : Scheme) → IsSchemeMade TakesNewRounds number rounds scheme → budget ≡ twice → IsPassword password
+  pub dummy_made : (scheme : Scheme) → IsSchemeMade TakesNewRounds number rounds scheme → budget ≡ default_budget → IsPassword password
       → new_cost scheme (length password) ≤ policy_limit scheme → IsUncheckable password field (policy_limit scheme)
       → (report.work ≡ work password (dummy scheme)) ⊎ IsAfterFailedAllocation no_work scheme report.work
   pub dummy : (scheme : Scheme) → IsSchemeMade TakesNewRounds number rounds scheme → IsPassword password
@@ -156,5 +156,5 @@ pub record TreatsFieldsAlike (password field : List ℕ) (number rounds budget :
   pub alike : (fault : PasswordFault) → IsPasswordRefused password fault → report ≡ refused (password_reason fault) 0
   pub alike_rounds : (reason : Reason) → IsPassword password → IsSchemeReading TakesNewRounds number rounds (Err reason)
       → report ≡ refused reason 0
-  pub alike_long : (scheme : Scheme) → IsSchemeMade TakesNewRounds number rounds scheme → budget ≡ twice
+  pub alike_long : (scheme : Scheme) → IsSchemeMade TakesNewRounds number rounds scheme → budget ≡ default_budget
       → policy_limit scheme < new_cost scheme (length password) → (result ≡ pos 0) × (report.work ≡ no_work)

@@ -28,7 +28,7 @@ ghost use Rattle.call_core.specs.Arguments.{IsSchemeMade, TakesNewRounds};
 ghost use Rattle.call_core.specs.Audits.{Audits, ForeseesLogins, IsCurrent};
 ghost use Rattle.call_core.specs.Checks.{IsDead, Opens, Verifies};
 ghost use Rattle.call_core.specs.Hashes.{Hashes, HashesAnew};
-ghost use Rattle.call_core.specs.Limits.{AreFitted, ReportsRounds, Limits, limit_bytes, limit_of, meant, new_cost, policy_limit, twice};
+ghost use Rattle.call_core.specs.Limits.{AreFitted, ReportsRounds, Limits, default_budget, limit_bytes, limit_of, meant, new_cost, policy_limit};
 ghost use Rattle.call_core.specs.Logins.{JudgesStoredHash, LogsIn, TreatsFieldsAlike};
 ghost use Rattle.call_core.specs.Names.{PutsMessage, PutsSchemeName};
 ghost use Rattle.call_core.specs.Reasons.{reason_row};
@@ -190,7 +190,7 @@ pub extern "C" fn mkpasswd_proved_new_from(
     ensures answers { Answers result report.new }
     ensures hashes { HashesAnew password.now method rounds (limit_of method rounds budget (length password.now)) numbers.now out.old report.new out.new }
     ensures locked { result ≡ pos 0 → out.new ≡ put (token []) out.old }
-    ensures writes { (scheme : Scheme) → IsSchemeMade TakesNewRounds method rounds scheme → budget ≡ twice → IsPassword password.now
+    ensures writes { (scheme : Scheme) → IsSchemeMade TakesNewRounds method rounds scheme → budget ≡ default_budget → IsPassword password.now
         → new_cost scheme (length password.now) ≤ policy_limit scheme → length numbers.now ≡ 3
         → length (crypt password.now (salted scheme numbers.now)) < length out.old
         → (result ≡ pos 1) ⊎ (report.new.error ≡ (reason_row OutOfMemory).0) }
@@ -332,7 +332,7 @@ pub extern "C" fn mkpasswd_rounds_bytes(
     ensures none { (scheme : Scheme) → IsSchemeMade TakesNewRounds method rounds scheme → password_len ≤ password_limit
         → result ≡ pos 0 → NeverFits scheme (limit_bytes (meant budget) scheme) password_len }
     ensures policy { (scheme : Scheme) → IsSchemeMade TakesNewRounds method rounds scheme → password_len ≤ password_limit
-        → budget ≡ twice → result ≡ pos 1 }
+        → budget ≡ default_budget → result ≡ pos 1 }
 {
     let told = report_rounds(password_len, method, rounds, Limit::of(budget));
     tell(report, told)

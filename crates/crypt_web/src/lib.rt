@@ -37,7 +37,7 @@ ghost use Rattle.call_core.specs.Arguments.{IsSchemeMade, TakesNewRounds};
 ghost use Rattle.call_core.specs.Audits.{Audits, ForeseesLogins, IsCurrent};
 ghost use Rattle.call_core.specs.Checks.{IsDead, Opens, Verifies};
 ghost use Rattle.call_core.specs.Hashes.{Hashes};
-ghost use Rattle.call_core.specs.Limits.{AreFitted, ReportsRounds, Limits, limit_bytes, limit_of, meant, twice};
+ghost use Rattle.call_core.specs.Limits.{AreFitted, ReportsRounds, Limits, default_budget, limit_bytes, limit_of, meant};
 ghost use Rattle.call_core.specs.Logins.{JudgesStoredHash, LogsIn, TreatsFieldsAlike};
 ghost use Rattle.call_core.specs.Names.{PutsMessage, PutsSchemeName};
 ghost use Rattle.call_core.specs.Needs.{HashesWith, IsNeed, LoginHashesWith};
@@ -377,7 +377,7 @@ pub extern "C" fn web_rounds(
     ensures none { (scheme : Scheme) → IsSchemeMade TakesNewRounds method rounds scheme → password_len ≤ password_limit
         → result ≡ pos 0 → NeverFits scheme (limit_bytes (meant budget) scheme) password_len }
     ensures policy { (scheme : Scheme) → IsSchemeMade TakesNewRounds method rounds scheme → password_len ≤ password_limit
-        → budget ≡ twice → result ≡ pos 1 }
+        → budget ≡ default_budget → result ≡ pos 1 }
 {
     let told = report_rounds(password_len, method, rounds, Limit::of(budget));
     tell(report, told)

@@ -26,10 +26,10 @@ returns-clause-locked c = λ zero. c.put_new_hash.ensures.locked (λ positive.
     absurd (cc (c.tell.ensures.answers.1.1 positive, none)))
 
 pub returns-clause-writes : goal.returns-clause-writes
-returns-clause-writes c = λ scheme made twice is within three room.
+returns-clause-writes c = λ scheme made default is within three room.
     let len = length c.args.password.now in
     let limit = limit_of c.args.method c.args.rounds c.args.budget len in
-    let admits = limit_by-policy_limit scheme len limit (limit_of-policy c.args.method c.args.rounds c.args.budget len scheme made twice) is.0 within in
+    let admits = limit_by-policy_limit scheme len limit (limit_of-policy c.args.method c.args.rounds c.args.budget len scheme made default) is.0 within in
     let below : nat_lt limit (new_cost scheme len) ≡ false = grind (arith, admits, within) in
     let low : nat_lt limit (cost (salted scheme c.args.numbers.now) len) ≡ false =
     ap (nat_lt limit) (cost-salted scheme c.args.numbers.now len) ∙ below in
