@@ -154,7 +154,7 @@ Hash_from_IsJudged findings.Unknown judged = absurd (not_IsJudged-refused reason
 Hash_from_IsJudged findings.NoScheme judged = absurd (not_IsJudged-refused reasons.NoScheme 0 (λ is. absurd (cc is)) judged)
 
 -- With a budget of 0, a hash whose standing isn't OverBudget is not over the budget.
-not_IsOverBudget_from_HasStanding : (new : Scheme) (field : List ℕ) (kept : SettingValue) (told : Standing) → HasStanding new 0 field kept told → told ≢ standings.OverBudget
+not_IsOverBudget_from_HasStanding : (new : Scheme) (field : List ℕ) (kept : SettingValue) (reported : Standing) → HasStanding new 0 field kept reported → reported ≢ standings.OverBudget
     → ¬ IsOverBudget new 0 kept
 not_IsOverBudget_from_HasStanding new field kept standings.OverBudget has other = absurd (other refl)
 not_IsOverBudget_from_HasStanding new field kept standings.Dead has other = has.0

@@ -9,7 +9,7 @@ use Rattle.call_core.specs.Arguments.{IsSchemeMade, TakesNewRounds}
 use Rattle.call_core.specs.Checks.{IsDead, Opens}
 use Rattle.call_core.specs.Limits.{default_budget, limit_by, limit_of}
 use Rattle.call_core.specs.declared.limit.Limit.TheVariants.{Policy}
-use Rattle.call_core.specs.Logins.{JudgesStoredHash, LogsIn, TellsDead, TreatsFieldsAlike}
+use Rattle.call_core.specs.Logins.{JudgesStoredHash, LogsIn, ReportsDead, TreatsFieldsAlike}
 use Rattle.call_core.specs.Rehashes.{IsOutdated}
 use Rattle.call_core.specs.Reports.{Answers}
 use Rattle.call_core.specs.declared.report.Report.{Report}
@@ -33,15 +33,15 @@ limit_of-policy number rounds budget len scheme makes policy = rw policy (limit_
 pub JudgesStoredHash_from_LogsIn : (password field : List ℕ) (number rounds budget : ℕ) (result : ℤ) (report : Report) → Answers result report
     → LogsIn password field number rounds budget report
     → (IsDead field → (report.error ≢ 0))
-    → TellsDead password field number rounds budget report
+    → ReportsDead password field number rounds budget report
     → (report.outdated ≡ 1 → (report.error ≡ 0) × IsOutdated field number rounds)
     → (report.error ≡ 0 → IsOutdated field number rounds → report.outdated ≡ 1)
     → JudgesStoredHash password field number rounds budget result report
 JudgesStoredHash_from_LogsIn password field number rounds budget result report answers logged shut dead outdated replaced = record {
   shut = λ is_dead. Answers-zero result report answers (shut is_dead);
   dead = dead;
-  tells = reports.IsDead_from_LogsIn password field number rounds budget report logged;
-  outdated = (λ told. (answers.1.1 (outdated told).0, (outdated told).1), λ is. replaced (answers.1.0 is.0) is.1);
+  only_dead = reports.IsDead_from_LogsIn password field number rounds budget report logged;
+  outdated = (λ reported. (answers.1.1 (outdated reported).0, (outdated reported).1), λ is. replaced (answers.1.0 is.0) is.1);
   as_verify = λ scheme made. reports.Agrees_from_LogsIn password field number rounds budget scheme report made logged;
 }
 

@@ -143,10 +143,10 @@ Agrees-checked : (over equal : Bool) (outdated : ℕ) (password field : List ℕ
     × Agrees scheme report verified
 Agrees-checked true equal outdated password field budget most scheme kept report declines =
     (refused OverBudget most, refl, Agrees_from_Declines password scheme budget OverBudget most report declines)
-Agrees-checked false equal outdated password field budget most scheme kept report (misses, miss, inl told) = (
+Agrees-checked false equal outdated password field budget most scheme kept report (misses, miss, inl reported) = (
   (if equal then found 0 most (work password kept) else failed WrongPassword most (work password kept)),
   inl refl,
-  Agrees-compared scheme equal outdated misses most (work password kept) report (IsMiss-cases field kept misses miss) told,
+  Agrees-compared scheme equal outdated misses most (work password kept) report (IsMiss-cases field kept misses miss) reported,
 )
 Agrees-checked false equal outdated password field budget most scheme kept report (misses, miss, inr lacks) = (report, inr lacks, (refl, inl refl))
 
@@ -229,11 +229,11 @@ IsHashWork-checked : (above : Bool) (password field : List ℕ) (budget : ℕ) (
     → IsHashWork password (dummy scheme) budget report.work ⊎ IsHashWork password kept budget report.work
 IsHashWork-checked true password field budget scheme kept outdated report e declines =
     inl (work-Declines password (dummy scheme) budget _ report refl declines)
-IsHashWork-checked false password field budget scheme kept outdated report e (misses, miss, inl told) =
-    inr (rw e (inl (ap (λ (r : Report). r.work) told
+IsHashWork-checked false password field budget scheme kept outdated report e (misses, miss, inl reported) =
+    inr (rw e (inl (ap (λ (r : Report). r.work) reported
     ∙ work-compared (bytes_eq (crypt password kept) field) outdated (cost kept (length password)) misses (work password kept))))
-IsHashWork-checked false password field budget scheme kept outdated report e (misses, miss, inr (done, lacks, told)) =
-    let same : report.work ≡ done = ap (λ (r : Report). r.work) told in
+IsHashWork-checked false password field budget scheme kept outdated report e (misses, miss, inr (done, lacks, reported)) =
+    let same : report.work ≡ done = ap (λ (r : Report). r.work) reported in
     inr (rw e (inr (subst (λ (w : Work). IsAfterFailedAllocation no_work kept.scheme w) (sym same) lacks)))
 
 -- The work of a login is none, or that of one hash that costs at most the budget (`IsLoginWork`).
@@ -326,14 +326,14 @@ report-rounds_refused password field number rounds budget reason report is (inr 
 
 -- A report with the number of another reason does not have the number of Dead.
 error-not_Dead : (reason : Reason) (report : Report) → reason ≢ Dead → report.error ≡ (reason_row reason).0 → report.error ≡ (reason_row Dead).0 → ⊥
-error-not_Dead reason report other is told = other (reason_row-unique reason Dead (sym is ∙ told))
+error-not_Dead reason report other is reported = other (reason_row-unique reason Dead (sym is ∙ reported))
 
 Declines-not_Dead : (password : List ℕ) (kept : SettingValue) (budget : ℕ) (reason : Reason) (most : ℕ) (report : Report) → reason ≢ Dead
     → Declines password kept budget (refused reason most) report → report.error ≡ (reason_row Dead).0 → ⊥
-Declines-not_Dead password kept budget reason most report other declines told =
+Declines-not_Dead password kept budget reason most report other declines reported =
     elim (error-Declines password kept budget (refused reason most) report declines) [
-      | inl same ↦ error-not_Dead reason report other same told
-      | inr lacks ↦ error-not_Dead OutOfMemory report (λ same. absurd (cc same)) lacks.0 told
+      | inl same ↦ error-not_Dead reason report other same reported
+      | inr lacks ↦ error-not_Dead OutOfMemory report (λ same. absurd (cc same)) lacks.0 reported
     ]
 
 -- If the report of a comparison is Dead, the stored hash is not whole.
@@ -341,11 +341,11 @@ IsDead-compared : (equal : Bool) (outdated : ℕ) (field : List ℕ) (kept : Set
     → Spells field kept → IsMiss field kept misses
     → report ≡ (if equal then found outdated most counts else failed misses most counts)
     → report.error ≡ (reason_row Dead).0 → IsDead field
-IsDead-compared true outdated field kept misses most counts report spells miss e told =
-    absurd (reason_row-nonzero Dead (sym told ∙ ap (λ (r : Report). r.error) e))
-IsDead-compared false outdated field kept misses most counts report spells (inl (wrong, whole)) e told =
-    absurd (error-not_Dead WrongPassword report (λ same. absurd (cc same)) (rw wrong at (ap (λ (r : Report). r.error) e)) told)
-IsDead-compared false outdated field kept misses most counts report spells (inr (dead, cut)) e told = (kept, spells, cut)
+IsDead-compared true outdated field kept misses most counts report spells miss e reported =
+    absurd (reason_row-nonzero Dead (sym reported ∙ ap (λ (r : Report). r.error) e))
+IsDead-compared false outdated field kept misses most counts report spells (inl (wrong, whole)) e reported =
+    absurd (error-not_Dead WrongPassword report (λ same. absurd (cc same)) (rw wrong at (ap (λ (r : Report). r.error) e)) reported)
+IsDead-compared false outdated field kept misses most counts report spells (inr (dead, cut)) e reported = (kept, spells, cut)
 
 -- If a login with a field that spells a setting reports Dead, the stored hash is dead.
 IsDead-checked : (above equal : Bool) (outdated : ℕ) (password field : List ℕ) (budget : ℕ) (scheme : Scheme) (kept : SettingValue) (report : Report)
@@ -355,12 +355,12 @@ IsDead-checked : (above equal : Bool) (outdated : ℕ) (password field : List �
     × ((report ≡ (if equal then found outdated (cost kept (length password)) (work password kept) else failed misses (cost kept (length password)) (work password kept)))
     ⊎ LacksMemory kept (cost kept (length password)) report))
     → report.error ≡ (reason_row Dead).0 → IsDead field
-IsDead-checked true equal outdated password field budget scheme kept report spells declines told =
-    absurd (Declines-not_Dead password (dummy scheme) budget OverBudget _ report (λ same. absurd (cc same)) declines told)
-IsDead-checked false equal outdated password field budget scheme kept report spells (misses, miss, inl e) told =
-    IsDead-compared equal outdated field kept misses _ _ report spells miss e told
-IsDead-checked false equal outdated password field budget scheme kept report spells (misses, miss, inr (done, lacks, e)) told =
-    absurd (error-not_Dead OutOfMemory report (λ same. absurd (cc same)) (ap (λ (r : Report). r.error) e) told)
+IsDead-checked true equal outdated password field budget scheme kept report spells declines reported =
+    absurd (Declines-not_Dead password (dummy scheme) budget OverBudget _ report (λ same. absurd (cc same)) declines reported)
+IsDead-checked false equal outdated password field budget scheme kept report spells (misses, miss, inl e) reported =
+    IsDead-compared equal outdated field kept misses _ _ report spells miss e reported
+IsDead-checked false equal outdated password field budget scheme kept report spells (misses, miss, inr (done, lacks, e)) reported =
+    absurd (error-not_Dead OutOfMemory report (λ same. absurd (cc same)) (ap (λ (r : Report). r.error) e) reported)
 
 -- Dead is not a reason to refuse a password, a setting or a field.
 password_reason-not_Dead : (fault : PasswordFault) → password_reason fault ≢ Dead
@@ -385,14 +385,14 @@ IsFieldRefusal-not_Dead field reason (inr (inr (fault, stored, broken, is))) = �
 -- If a login reports Dead, the stored hash is dead.
 pub IsDead_from_LogsIn : (password field : List ℕ) (number rounds budget : ℕ) (report : Report) → LogsIn password field number rounds budget report
     → report.error ≡ (reason_row Dead).0 → IsDead field
-IsDead_from_LogsIn password field number rounds budget report (inr (fault, is, e)) told =
-    absurd (error-not_Dead (password_reason fault) report (password_reason-not_Dead fault) (ap (λ (r : Report). r.error) e) told)
-IsDead_from_LogsIn password field number rounds budget report (inl (is, inr (inl (none, e)))) told =
-    absurd (error-not_Dead UnknownMethod report (λ same. absurd (cc same)) (ap (λ (r : Report). r.error) e) told)
-IsDead_from_LogsIn password field number rounds budget report (inl (is, inr (inr (method, named, never, e)))) told =
-    absurd (error-not_Dead Rounds report (λ same. absurd (cc same)) (ap (λ (r : Report). r.error) e) told)
-IsDead_from_LogsIn password field number rounds budget report (inl (is, inl (scheme, makes, inr (reason, broken, declines)))) told =
-    absurd (Declines-not_Dead password (dummy scheme) budget reason 0 report (IsFieldRefusal-not_Dead field reason broken) declines told)
-IsDead_from_LogsIn password field number rounds budget report (inl (is, inl (scheme, makes, inl (kept, spells, checked)))) told =
+IsDead_from_LogsIn password field number rounds budget report (inr (fault, is, e)) reported =
+    absurd (error-not_Dead (password_reason fault) report (password_reason-not_Dead fault) (ap (λ (r : Report). r.error) e) reported)
+IsDead_from_LogsIn password field number rounds budget report (inl (is, inr (inl (none, e)))) reported =
+    absurd (error-not_Dead UnknownMethod report (λ same. absurd (cc same)) (ap (λ (r : Report). r.error) e) reported)
+IsDead_from_LogsIn password field number rounds budget report (inl (is, inr (inr (method, named, never, e)))) reported =
+    absurd (error-not_Dead Rounds report (λ same. absurd (cc same)) (ap (λ (r : Report). r.error) e) reported)
+IsDead_from_LogsIn password field number rounds budget report (inl (is, inl (scheme, makes, inr (reason, broken, declines)))) reported =
+    absurd (Declines-not_Dead password (dummy scheme) budget reason 0 report (IsFieldRefusal-not_Dead field reason broken) declines reported)
+IsDead_from_LogsIn password field number rounds budget report (inl (is, inl (scheme, makes, inl (kept, spells, checked)))) reported =
     IsDead-checked (nat_lt budget (cost kept (length password))) (bytes_eq (crypt password kept) field) (if is_outdated_by kept.scheme scheme then 1 else 0)
-    password field budget scheme kept report spells checked told
+    password field budget scheme kept report spells checked reported

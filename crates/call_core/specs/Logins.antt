@@ -100,11 +100,11 @@ Agrees scheme report verified =
     ⊎ (((report.error ≡ (reason_row Dead).0) × (verified.error ≡ (reason_row WrongPassword).0))
     ⊎ ((report.error ≡ (reason_row OutOfMemory).0) × (allocates scheme ≡ true) × (verified.error ≢ 0) × (verified.work ≡ no_work))))
 
--- TellsDead password field number rounds budget report: if the method, the rounds and the password are valid, and the
+-- ReportsDead password field number rounds budget report: if the method, the rounds and the password are valid, and the
 -- stored hash is dead and within the budget, the report is Dead with the cost and the work of the check; or scrypt
 -- lacked memory.
-abbrev pub TellsDead : List ℕ → List ℕ → ℕ → ℕ → ℕ → Report → Type 0
-TellsDead password field number rounds budget report =
+abbrev pub ReportsDead : List ℕ → List ℕ → ℕ → ℕ → ℕ → Report → Type 0
+ReportsDead password field number rounds budget report =
     (scheme : Scheme) → (kept : SettingValue) → IsSchemeMade TakesNewRounds number rounds scheme → IsPassword password
     → Spells field kept → ¬ IsWhole field kept → cost kept (length password) ≤ budget
     → (report ≡ failed Dead (cost kept (length password)) (work password kept))
@@ -115,13 +115,13 @@ TellsDead password field number rounds budget report =
 --   shut       a dead hash lets nobody in
 --   dead       if the arguments are valid, and the stored hash is dead and within the budget, the report is Dead,
 --              unless scrypt lacked memory
---   tells      the report is Dead only if the stored hash is dead
+--   only_dead  the report is Dead only if the stored hash is dead
 --   outdated   `outdated` is 1 exactly if the password is let in and a new hash would replace the stored one
 --   as_verify  if the method and the rounds are valid, the report agrees with that of mkpasswd_verify with this budget
 pub record JudgesStoredHash (password field : List ℕ) (number rounds budget : ℕ) (result : ℤ) (report : Report) : Type 0 where
   pub shut : IsDead field → result ≡ pos 0
-  pub dead : TellsDead password field number rounds budget report
-  pub tells : report.error ≡ (reason_row Dead).0 → IsDead field
+  pub dead : ReportsDead password field number rounds budget report
+  pub only_dead : report.error ≡ (reason_row Dead).0 → IsDead field
   pub outdated : report.outdated ≡ 1 ↔ (result ≡ pos 1) × IsOutdated field number rounds
   pub as_verify : (scheme : Scheme) → IsSchemeMade TakesNewRounds number rounds scheme
       → (verified : Report) × Verifies password field budget verified × Agrees scheme report verified

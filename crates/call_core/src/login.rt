@@ -9,7 +9,7 @@ ghost use Rattle.crypt_core.specs.declared.scheme.Scheme.{Scheme as Made};
 ghost use Rattle.call_core.specs.Arguments.{IsSchemeMade, TakesNewRounds};
 ghost use Rattle.call_core.specs.Checks.{IsDead, NeedsNoMemory, Opens};
 ghost use Rattle.call_core.specs.Limits.{limit_in};
-ghost use Rattle.call_core.specs.Logins.{Declines, IsMiss, LogsIn, TellsDead};
+ghost use Rattle.call_core.specs.Logins.{Declines, IsMiss, LogsIn, ReportsDead};
 ghost use Rattle.call_core.specs.Needs.{LoginHashesWith};
 ghost use Rattle.call_core.specs.Reasons.{reason_row};
 ghost use Rattle.call_core.specs.Rehashes.{IsOutdated};
@@ -51,7 +51,7 @@ pub fn log_in<M: Memory>(
     ensures opens { (scheme : Made) → IsSchemeMade TakesNewRounds method rounds scheme → Opens password.now field.now (limit_in method rounds limit (length password.now))
         → (result.error ≡ 0) ⊎ ((result.error ≡ (reason_row Reason.OutOfMemory).0) × ¬ NeedsNoMemory field.now) }
     ensures shut { IsDead field.now → result.error ≢ 0 }
-    ensures dead { TellsDead password.now field.now method rounds (limit_in method rounds limit (length password.now)) result }
+    ensures dead { ReportsDead password.now field.now method rounds (limit_in method rounds limit (length password.now)) result }
     ensures outdated { result.outdated ≡ 1 → (result.error ≡ 0) × IsOutdated field.now method rounds }
     ensures replaced { result.error ≡ 0 → IsOutdated field.now method rounds → result.outdated ≡ 1 }
     ensures enough { ((kept : SettingValue) → LoginHashesWith password.now field.now method rounds (limit_in method rounds limit (length password.now)) kept

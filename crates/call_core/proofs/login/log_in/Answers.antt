@@ -41,8 +41,8 @@ returns-in-Ok-checkable-clause-replaced g c = λ none is.
     let same : kept ≡ is.0 = c.in-Ok-checkable.ensures.only is.0 is.2 in
     let made : scheme ≡ is.1 = IsSchemeMade-unique TakesNewRounds TakesRounds c.args.method c.args.rounds scheme is.1 c.in-Ok.ensures.scheme is.3 in
     let outdated : is_outdated_by kept.scheme scheme ≡ true = is_outdated_by-eq kept is.0 scheme is.1 same made is.4 in
-    let told : c.is_outdated_by-is_outdated.result ≡ true = cc in
-    rw told at (c.compare.ensures.same none).1
+    let reported : c.is_outdated_by-is_outdated.result ≡ true = cc in
+    rw reported at (c.compare.ensures.same none).1
 
 pub returns-in-Ok-checkable-clause-shut : goal.returns-in-Ok-checkable-clause-shut
 returns-in-Ok-checkable-clause-shut g c = λ dead none.
@@ -69,7 +69,7 @@ returns-in-Ok-checkable-clause-dead g c = λ scheme kept made is spells dead low
     ] in
     let missed = c.compare.ensures.missed (λ fits. not_fits-IsDead (c.in-Ok.request).password c.args.field.now own found.spells (rw found.is_text at fits) (kept, spells, dead)) in
     elim missed [
-      | inl told ↦ inl (rw (is_dead, c.in-Ok-checkable.ensures.within.0, c.in-Ok.ensures.password.0, same) at told)
+      | inl reported ↦ inl (rw (is_dead, c.in-Ok-checkable.ensures.within.0, c.in-Ok.ensures.password.0, same) at reported)
       | inr lacks ↦ inr (rw same at lacks)
     ]
 
