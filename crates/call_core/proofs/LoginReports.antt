@@ -47,13 +47,13 @@ LogsIn-declined password field number rounds budget scheme refusal report is mak
     inl (is, inl (scheme, makes, inl (kept, spells, rw test (rw e at declines))))
 
 -- `LogsIn` holds of the report of a login that compares the password's hash with the stored one.
-pub LogsIn-compared : (password field : List ℕ) (number rounds budget : ℕ) (scheme : Scheme) (kept : SettingValue) (misses : Reason) (report : Report)
+pub LogsIn-compared : (password field : List ℕ) (number rounds budget : ℕ) (scheme : Scheme) (kept : SettingValue) (mismatch_reason : Reason) (report : Report)
     → IsPassword password → IsSchemeMade TakesNewRounds number rounds scheme → Spells field kept → cost kept (length password) ≤ budget
-    → IsMiss field kept misses → Compares password kept field (if is_outdated_by kept.scheme scheme then 1 else 0) misses report
+    → IsMiss field kept mismatch_reason → Compares password kept field (if is_outdated_by kept.scheme scheme then 1 else 0) mismatch_reason report
     → LogsIn password field number rounds budget report
-LogsIn-compared password field number rounds budget scheme kept misses report is makes spells low miss compares =
+LogsIn-compared password field number rounds budget scheme kept mismatch_reason report is makes spells low miss compares =
     let test : nat_lt budget (cost kept (length password)) ≡ false = grind arith in
-    inl (is, inl (scheme, makes, inl (kept, spells, rw test (misses, miss, compares))))
+    inl (is, inl (scheme, makes, inl (kept, spells, rw test (mismatch_reason, miss, compares))))
 
 -- If the scheme of a setting is outdated by a scheme, so is that of an equal setting by an equal scheme.
 pub is_outdated_by-eq : (kept other : SettingValue) (scheme also : Scheme) → kept ≡ other → scheme ≡ also → IsTrue (is_outdated_by other.scheme also)
@@ -109,46 +109,46 @@ work-Declines password kept budget refusal report idle declines = go (nat_lt bud
       inr (subst (λ (w : Work). IsAfterFailedAllocation no_work kept.scheme w) (sym (ap (λ (r : Report). r.work) e)) lacks)
 
 -- A login that can't check the stored hash agrees with mkpasswd_verify, which reports the refusal.
-Agrees_from_Declines : (password : List ℕ) (scheme : Scheme) (budget : ℕ) (reason : Reason) (most : ℕ) (report : Report)
-    → Declines password (dummy scheme) budget (refused reason most) report → Agrees scheme report (refused reason most)
-Agrees_from_Declines password scheme budget reason most report declines = (
-  cost-Declines password (dummy scheme) budget (refused reason most) report declines,
-  elim (error-Declines password (dummy scheme) budget (refused reason most) report declines) [
+Agrees_from_Declines : (password : List ℕ) (scheme : Scheme) (budget : ℕ) (reason : Reason) (hash_cost : ℕ) (report : Report)
+    → Declines password (dummy scheme) budget (refused reason hash_cost) report → Agrees scheme report (refused reason hash_cost)
+Agrees_from_Declines password scheme budget reason hash_cost report declines = (
+  cost-Declines password (dummy scheme) budget (refused reason hash_cost) report declines,
+  elim (error-Declines password (dummy scheme) budget (refused reason hash_cost) report declines) [
     | inl same ↦ inl same
     | inr lacks ↦ inr (inr (lacks.0, lacks.1, reason_row-nonzero reason, refl))
   ],
 )
 
 -- The reason for a password that doesn't match is WrongPassword or Dead.
-pub IsMiss-cases : (field : List ℕ) (kept : SettingValue) (misses : Reason) → IsMiss field kept misses → (misses ≡ WrongPassword) ⊎ (misses ≡ Dead)
-IsMiss-cases field kept misses (inl (wrong, whole)) = inl wrong
-IsMiss-cases field kept misses (inr (dead, cut)) = inr dead
+pub IsMiss-cases : (field : List ℕ) (kept : SettingValue) (mismatch_reason : Reason) → IsMiss field kept mismatch_reason → (mismatch_reason ≡ WrongPassword) ⊎ (mismatch_reason ≡ Dead)
+IsMiss-cases field kept mismatch_reason (inl (wrong, whole)) = inl wrong
+IsMiss-cases field kept mismatch_reason (inr (dead, cut)) = inr dead
 
 -- A login that compares reports what mkpasswd_verify does, except that Dead may replace WrongPassword.
-Agrees-compared : (scheme : Scheme) (equal : Bool) (outdated : ℕ) (misses : Reason) (most : ℕ) (counts : Work) (report : Report) → (misses ≡ WrongPassword) ⊎ (misses ≡ Dead)
-    → report ≡ (if equal then found outdated most counts else failed misses most counts)
-    → Agrees scheme report (if equal then found 0 most counts else failed WrongPassword most counts)
-Agrees-compared scheme false outdated misses most counts report (inl wrong) e = rw (e, wrong) (refl, inl refl)
-Agrees-compared scheme false outdated misses most counts report (inr dead) e = rw (e, dead) (refl, inr (inl (refl, refl)))
-Agrees-compared scheme true outdated misses most counts report miss e = rw e (refl, inl refl)
+Agrees-compared : (scheme : Scheme) (equal : Bool) (outdated : ℕ) (mismatch_reason : Reason) (hash_cost : ℕ) (counts : Work) (report : Report) → (mismatch_reason ≡ WrongPassword) ⊎ (mismatch_reason ≡ Dead)
+    → report ≡ (if equal then found outdated hash_cost counts else failed mismatch_reason hash_cost counts)
+    → Agrees scheme report (if equal then found 0 hash_cost counts else failed WrongPassword hash_cost counts)
+Agrees-compared scheme false outdated mismatch_reason hash_cost counts report (inl wrong) e = rw (e, wrong) (refl, inl refl)
+Agrees-compared scheme false outdated mismatch_reason hash_cost counts report (inr dead) e = rw (e, dead) (refl, inr (inl (refl, refl)))
+Agrees-compared scheme true outdated mismatch_reason hash_cost counts report miss e = rw e (refl, inl refl)
 
 -- For a field that spells a setting, the report of a login agrees with one that mkpasswd_verify can have.
-Agrees-checked : (over equal : Bool) (outdated : ℕ) (password field : List ℕ) (budget most : ℕ) (scheme : Scheme) (kept : SettingValue) (report : Report)
-    → MatchBool over (Declines password (dummy scheme) budget (refused OverBudget most) report)
-    ((misses : Reason) × IsMiss field kept misses
-    × ((report ≡ (if equal then found outdated most (work password kept) else failed misses most (work password kept)))
-    ⊎ LacksMemory kept most report))
-    → (verified : Report) × MatchBool over (verified ≡ refused OverBudget most)
-    ((verified ≡ (if equal then found 0 most (work password kept) else failed WrongPassword most (work password kept))) ⊎ LacksMemory kept most verified)
+Agrees-checked : (over equal : Bool) (outdated : ℕ) (password field : List ℕ) (budget hash_cost : ℕ) (scheme : Scheme) (kept : SettingValue) (report : Report)
+    → MatchBool over (Declines password (dummy scheme) budget (refused OverBudget hash_cost) report)
+    ((mismatch_reason : Reason) × IsMiss field kept mismatch_reason
+    × ((report ≡ (if equal then found outdated hash_cost (work password kept) else failed mismatch_reason hash_cost (work password kept)))
+    ⊎ LacksMemory kept hash_cost report))
+    → (verified : Report) × MatchBool over (verified ≡ refused OverBudget hash_cost)
+    ((verified ≡ (if equal then found 0 hash_cost (work password kept) else failed WrongPassword hash_cost (work password kept))) ⊎ LacksMemory kept hash_cost verified)
     × Agrees scheme report verified
-Agrees-checked true equal outdated password field budget most scheme kept report declines =
-    (refused OverBudget most, refl, Agrees_from_Declines password scheme budget OverBudget most report declines)
-Agrees-checked false equal outdated password field budget most scheme kept report (misses, miss, inl reported) = (
-  (if equal then found 0 most (work password kept) else failed WrongPassword most (work password kept)),
+Agrees-checked true equal outdated password field budget hash_cost scheme kept report declines =
+    (refused OverBudget hash_cost, refl, Agrees_from_Declines password scheme budget OverBudget hash_cost report declines)
+Agrees-checked false equal outdated password field budget hash_cost scheme kept report (mismatch_reason, miss, inl reported) = (
+  (if equal then found 0 hash_cost (work password kept) else failed WrongPassword hash_cost (work password kept)),
   inl refl,
-  Agrees-compared scheme equal outdated misses most (work password kept) report (IsMiss-cases field kept misses miss) reported,
+  Agrees-compared scheme equal outdated mismatch_reason hash_cost (work password kept) report (IsMiss-cases field kept mismatch_reason miss) reported,
 )
-Agrees-checked false equal outdated password field budget most scheme kept report (misses, miss, inr lacks) = (report, inr lacks, (refl, inl refl))
+Agrees-checked false equal outdated password field budget hash_cost scheme kept report (mismatch_reason, miss, inr lacks) = (report, inr lacks, (refl, inl refl))
 
 -- For a valid method and rounds, the report of a login agrees with one that mkpasswd_verify can have.
 pub Agrees_from_LogsIn : (password field : List ℕ) (number rounds budget : ℕ) (scheme : Scheme) (report : Report)
@@ -164,9 +164,9 @@ Agrees_from_LogsIn password field number rounds budget scheme report makes (inl 
     (refused fault 0, inl (is, inr (fault, broken, refl)), Agrees_from_Declines password scheme budget fault 0 report (rw same at declines))
 Agrees_from_LogsIn password field number rounds budget scheme report makes (inl (is, inl (other, also, inl (kept, spells, checked)))) =
     let same : other ≡ scheme = IsSchemeMade-unique TakesNewRounds TakesNewRounds number rounds other scheme also makes in
-    let most = cost kept (length password) in
-    let agree = Agrees-checked (nat_lt budget most) (bytes_eq (crypt password kept) field) (if is_outdated_by kept.scheme scheme then 1 else 0)
-    password field budget most scheme kept report (rw same at checked) in
+    let hash_cost = cost kept (length password) in
+    let agree = Agrees-checked (nat_lt budget hash_cost) (bytes_eq (crypt password kept) field) (if is_outdated_by kept.scheme scheme then 1 else 0)
+    password field budget hash_cost scheme kept report (rw same at checked) in
     (agree.0, inl (is, inl (kept, spells, agree.1)), agree.2)
 
 -- ---- Fields that a login can't check
@@ -216,23 +216,23 @@ spent-le-budget password kept budget done hashed = go (nat_lt budget (cost kept 
       rw is (omega (arith, spent-work kept.scheme password kept.salt, low))
   go false e (inr refused) = rw (spent-failed_allocation kept.scheme done refused) (omega arith)
 
-work-compared : (equal : Bool) (outdated most : ℕ) (misses : Reason) (counts : Work)
-    → (if equal then found outdated most counts else failed misses most counts).work ≡ counts
-work-compared true outdated most misses counts = refl
-work-compared false outdated most misses counts = refl
+work-compared : (equal : Bool) (outdated hash_cost : ℕ) (mismatch_reason : Reason) (counts : Work)
+    → (if equal then found outdated hash_cost counts else failed mismatch_reason hash_cost counts).work ≡ counts
+work-compared true outdated hash_cost mismatch_reason counts = refl
+work-compared false outdated hash_cost mismatch_reason counts = refl
 
 -- For a field that spells a setting, the work of a login is that of the dummy hash or of a hash with that setting.
 IsHashWork-checked : (above : Bool) (password field : List ℕ) (budget : ℕ) (scheme : Scheme) (kept : SettingValue) (outdated : ℕ) (report : Report)
     → nat_lt budget (cost kept (length password)) ≡ above
     → MatchBool above (Declines password (dummy scheme) budget (refused OverBudget (cost kept (length password))) report)
-    ((misses : Reason) × IsMiss field kept misses × Compares password kept field outdated misses report)
+    ((mismatch_reason : Reason) × IsMiss field kept mismatch_reason × Compares password kept field outdated mismatch_reason report)
     → IsHashWork password (dummy scheme) budget report.work ⊎ IsHashWork password kept budget report.work
 IsHashWork-checked true password field budget scheme kept outdated report e declines =
     inl (work-Declines password (dummy scheme) budget _ report refl declines)
-IsHashWork-checked false password field budget scheme kept outdated report e (misses, miss, inl reported) =
+IsHashWork-checked false password field budget scheme kept outdated report e (mismatch_reason, miss, inl reported) =
     inr (rw e (inl (ap (λ (r : Report). r.work) reported
-    ∙ work-compared (bytes_eq (crypt password kept) field) outdated (cost kept (length password)) misses (work password kept))))
-IsHashWork-checked false password field budget scheme kept outdated report e (misses, miss, inr (done, lacks, reported)) =
+    ∙ work-compared (bytes_eq (crypt password kept) field) outdated (cost kept (length password)) mismatch_reason (work password kept))))
+IsHashWork-checked false password field budget scheme kept outdated report e (mismatch_reason, miss, inr (done, lacks, reported)) =
     let same : report.work ≡ done = ap (λ (r : Report). r.work) reported in
     inr (rw e (inr (subst (λ (w : Work). IsAfterFailedAllocation no_work kept.scheme w) (sym same) lacks)))
 
@@ -328,38 +328,38 @@ report-rounds_refused password field number rounds budget reason report is (inr 
 error-not_Dead : (reason : Reason) (report : Report) → reason ≢ Dead → report.error ≡ (reason_row reason).0 → report.error ≡ (reason_row Dead).0 → ⊥
 error-not_Dead reason report other is reported = other (reason_row-unique reason Dead (sym is ∙ reported))
 
-Declines-not_Dead : (password : List ℕ) (kept : SettingValue) (budget : ℕ) (reason : Reason) (most : ℕ) (report : Report) → reason ≢ Dead
-    → Declines password kept budget (refused reason most) report → report.error ≡ (reason_row Dead).0 → ⊥
-Declines-not_Dead password kept budget reason most report other declines reported =
-    elim (error-Declines password kept budget (refused reason most) report declines) [
+Declines-not_Dead : (password : List ℕ) (kept : SettingValue) (budget : ℕ) (reason : Reason) (hash_cost : ℕ) (report : Report) → reason ≢ Dead
+    → Declines password kept budget (refused reason hash_cost) report → report.error ≡ (reason_row Dead).0 → ⊥
+Declines-not_Dead password kept budget reason hash_cost report other declines reported =
+    elim (error-Declines password kept budget (refused reason hash_cost) report declines) [
       | inl same ↦ error-not_Dead reason report other same reported
       | inr lacks ↦ error-not_Dead OutOfMemory report (λ same. absurd (cc same)) lacks.0 reported
     ]
 
 -- If the report of a comparison is Dead, the stored hash is not whole.
-IsDead-compared : (equal : Bool) (outdated : ℕ) (field : List ℕ) (kept : SettingValue) (misses : Reason) (most : ℕ) (counts : Work) (report : Report)
-    → Spells field kept → IsMiss field kept misses
-    → report ≡ (if equal then found outdated most counts else failed misses most counts)
+IsDead-compared : (equal : Bool) (outdated : ℕ) (field : List ℕ) (kept : SettingValue) (mismatch_reason : Reason) (hash_cost : ℕ) (counts : Work) (report : Report)
+    → Spells field kept → IsMiss field kept mismatch_reason
+    → report ≡ (if equal then found outdated hash_cost counts else failed mismatch_reason hash_cost counts)
     → report.error ≡ (reason_row Dead).0 → IsDead field
-IsDead-compared true outdated field kept misses most counts report spells miss e reported =
+IsDead-compared true outdated field kept mismatch_reason hash_cost counts report spells miss e reported =
     absurd (reason_row-nonzero Dead (sym reported ∙ ap (λ (r : Report). r.error) e))
-IsDead-compared false outdated field kept misses most counts report spells (inl (wrong, whole)) e reported =
+IsDead-compared false outdated field kept mismatch_reason hash_cost counts report spells (inl (wrong, whole)) e reported =
     absurd (error-not_Dead WrongPassword report (λ same. absurd (cc same)) (rw wrong at (ap (λ (r : Report). r.error) e)) reported)
-IsDead-compared false outdated field kept misses most counts report spells (inr (dead, cut)) e reported = (kept, spells, cut)
+IsDead-compared false outdated field kept mismatch_reason hash_cost counts report spells (inr (dead, cut)) e reported = (kept, spells, cut)
 
 -- If a login with a field that spells a setting reports Dead, the stored hash is dead.
 IsDead-checked : (above equal : Bool) (outdated : ℕ) (password field : List ℕ) (budget : ℕ) (scheme : Scheme) (kept : SettingValue) (report : Report)
     → Spells field kept
     → MatchBool above (Declines password (dummy scheme) budget (refused OverBudget (cost kept (length password))) report)
-    ((misses : Reason) × IsMiss field kept misses
-    × ((report ≡ (if equal then found outdated (cost kept (length password)) (work password kept) else failed misses (cost kept (length password)) (work password kept)))
+    ((mismatch_reason : Reason) × IsMiss field kept mismatch_reason
+    × ((report ≡ (if equal then found outdated (cost kept (length password)) (work password kept) else failed mismatch_reason (cost kept (length password)) (work password kept)))
     ⊎ LacksMemory kept (cost kept (length password)) report))
     → report.error ≡ (reason_row Dead).0 → IsDead field
 IsDead-checked true equal outdated password field budget scheme kept report spells declines reported =
     absurd (Declines-not_Dead password (dummy scheme) budget OverBudget _ report (λ same. absurd (cc same)) declines reported)
-IsDead-checked false equal outdated password field budget scheme kept report spells (misses, miss, inl e) reported =
-    IsDead-compared equal outdated field kept misses _ _ report spells miss e reported
-IsDead-checked false equal outdated password field budget scheme kept report spells (misses, miss, inr (done, lacks, e)) reported =
+IsDead-checked false equal outdated password field budget scheme kept report spells (mismatch_reason, miss, inl e) reported =
+    IsDead-compared equal outdated field kept mismatch_reason _ _ report spells miss e reported
+IsDead-checked false equal outdated password field budget scheme kept report spells (mismatch_reason, miss, inr (done, lacks, e)) reported =
     absurd (error-not_Dead OutOfMemory report (λ same. absurd (cc same)) (ap (λ (r : Report). r.error) e) reported)
 
 -- Dead is not a reason to refuse a password, a setting or a field.

@@ -19,16 +19,16 @@ use Rattle.call_core.specs.declared.report.Report.{Report}
 IsPut-admission : (password text : List ℕ) (kept : SettingValue) (lock old : List ℕ) (made : Result (List ℕ × Report) Report) (report : Report) (new : List ℕ)
     (admitted : Result ℕ Report)
     → MatchResult admitted
-    (λ most. (made ≡ Ok (text, succeeded (length text) most (work password kept)))
-    ⊎ ((reported : Report) × (made ≡ Err reported) × LacksMemory kept most reported))
+    (λ hash_cost. (made ≡ Ok (text, succeeded (length text) hash_cost (work password kept)))
+    ⊎ ((reported : Report) × (made ≡ Err reported) × LacksMemory kept hash_cost reported))
     (λ refusal. made ≡ Err refusal)
     → IsPut made lock old report new
     → MatchResult admitted
-    (λ most. Leaves (succeeded (length text) most (work password kept)) text old report new
-    ⊎ (LacksMemory kept most report × Leaves report lock old report new))
+    (λ hash_cost. Leaves (succeeded (length text) hash_cost (work password kept)) text old report new
+    ⊎ (LacksMemory kept hash_cost report × Leaves report lock old report new))
     (λ refusal. Leaves refusal lock old report new)
-IsPut-admission password text kept lock old made report new (Ok most) (inl e) put = inl (rw e at put)
-IsPut-admission password text kept lock old made report new (Ok most) (inr (reported, e, lacks)) put =
+IsPut-admission password text kept lock old made report new (Ok hash_cost) (inl e) put = inl (rw e at put)
+IsPut-admission password text kept lock old made report new (Ok hash_cost) (inr (reported, e, lacks)) put =
     let left = rw e at put in
     inr (rw left.0 lacks, (refl, left.1))
 IsPut-admission password text kept lock old made report new (Err refusal) e put = rw e at put

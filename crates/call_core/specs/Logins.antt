@@ -1,7 +1,7 @@
 -- A login, which checks a password against a stored hash, or makes a dummy hash if it can't check the stored one.
 --
--- A password is the list of its bytes, `kept` is the setting that a text spells, and `most` is the cost of a hash: the
--- most bytes that it digests and mixes.
+-- A password is the list of its bytes, `kept` is the setting that a text spells, and `hash_cost` is the cost of a hash:
+-- the most bytes that it digests and mixes.
 use Rattle.std.specs.Prelude.{◌≡◌, ◌≢◌, ◌⊎◌, ◌↔◌, ◌<◌, ◌≤◌, ◌+◌, ◌*◌, if◌then◌else◌, ℕ, ℤ, pos, nat_lt, true, MatchBool, List, [], ◌∷◌, length, Err}
 use Rattle.prims_core.specs.Work.{no_work}
 use Rattle.prims_core.specs.declared.meter.Work.{Work}
@@ -65,11 +65,11 @@ abbrev pub LogsIn : List ℕ → List ℕ → ℕ → ℕ → ℕ → Report →
 LogsIn password field number rounds budget report =
     OnPassword password (Refuses report) (OnScheme TakesNewRounds number rounds (Refuses report) (λ scheme.
     OnField field (λ reason. Declines password (dummy scheme) budget (refused reason 0) report) (λ kept.
-    let most = cost kept (length password) in
-    MatchBool (nat_lt budget most)
-    (Declines password (dummy scheme) budget (refused OverBudget most) report)
-    ((misses : Reason) × IsMiss field kept misses
-    × Compares password kept field (if is_outdated_by kept.scheme scheme then 1 else 0) misses report))))
+    let hash_cost = cost kept (length password) in
+    MatchBool (nat_lt budget hash_cost)
+    (Declines password (dummy scheme) budget (refused OverBudget hash_cost) report)
+    ((mismatch_reason : Reason) × IsMiss field kept mismatch_reason
+    × Compares password kept field (if is_outdated_by kept.scheme scheme then 1 else 0) mismatch_reason report))))
 
 -- spent scheme done: the cost of the work of a hash with this scheme, in bytes: those that it digested and, for scrypt,
 -- those that it mixed, 2r blocks of 64 bytes in each mixing.

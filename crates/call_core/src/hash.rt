@@ -102,13 +102,13 @@ pub(crate) fn hash_within<M: Memory>(
         → IfErr result (λ report. report.error ≢ (reason_row Reason.OutOfMemory).0) }
     ensures bytes { meter.new.bytes ≤ budget }
 {
-    let most = admit(password, setting, budget, room)?;
+    let hash_cost = admit(password, setting, budget, room)?;
     match hash_by(memory, password, setting, meter) {
         Ok(hashed) => {
             let length = hashed.text().len() as u32;
-            let report = Report::succeeded(length, most, meter.work());
+            let report = Report::succeeded(length, hash_cost, meter.work());
             Ok((hashed, report))
         }
-        Err(_) => Err(Report::failed(Reason::OutOfMemory, most, meter.work())),
+        Err(_) => Err(Report::failed(Reason::OutOfMemory, hash_cost, meter.work())),
     }
 }

@@ -64,13 +64,13 @@ pub fn log_in<M: Memory>(
         Err(refused) => return refused,
     };
     match checkable(&request.password, field, request.limit) {
-        Ok((stored, most)) => {
+        Ok((stored, hash_cost)) => {
             let is_outdated = stored.setting().scheme().is_outdated_by(&request.scheme);
             compare(
                 memory,
                 &request.password,
                 &stored,
-                most,
+                hash_cost,
                 is_outdated,
                 miss_of(&stored),
                 meter,

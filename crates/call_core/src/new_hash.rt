@@ -90,6 +90,6 @@ fn new_hash_of<M: Memory>(
     }
     // Any salt will do here: the cost and the length of a hash don't depend on the random numbers.
     let setting = Setting::salted(request.scheme, [0; 3]);
-    let most = admit(&request.password, &setting, request.limit, room)?;
-    Err(Report::refused(Reason::NoRandomNumbers, most))
+    let hash_cost = admit(&request.password, &setting, request.limit, room)?;
+    Err(Report::refused(Reason::NoRandomNumbers, hash_cost))
 }

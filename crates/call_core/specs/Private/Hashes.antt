@@ -25,8 +25,8 @@ abbrev pub MakesHash : List ℕ → SettingValue → ℕ → ℕ → Result (Lis
 MakesHash password kept budget room made =
     let text = crypt password kept in
     MatchResult (admission budget room password kept)
-    (λ most. (made ≡ Ok (text, succeeded (length text) most (work password kept)))
-    ⊎ ((report : Report) × (made ≡ Err report) × LacksMemory kept most report))
+    (λ hash_cost. (made ≡ Ok (text, succeeded (length text) hash_cost (work password kept)))
+    ⊎ ((report : Report) × (made ≡ Err report) × LacksMemory kept hash_cost report))
     (λ refusal. made ≡ Err refusal)
 
 -- MakesHashOf password text budget room made: `made` is the hash with the setting in `text`, or the report of the first
@@ -45,7 +45,7 @@ MakesHashAnew password number rounds numbers budget room made =
     MatchBool (length numbers == 3)
     (MakesHash password (salted scheme numbers) budget room made)
     (MatchResult (admission budget room password (salted scheme (0 ∷ 0 ∷ 0 ∷ [])))
-    (λ most. made ≡ Err (refused NoRandomNumbers most))
+    (λ hash_cost. made ≡ Err (refused NoRandomNumbers hash_cost))
     (λ refusal. made ≡ Err refusal))))
 
 -- IsReported budget room done made: what the report in `made` says, where `done` is everything that the meter counted.
