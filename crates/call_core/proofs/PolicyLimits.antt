@@ -153,10 +153,10 @@ IsLoginWork-zero_limit password field number rounds scheme done makes above (inr
     no_work-zero_limit password kept done (Spells-cost_positive field kept (length password) spells) hashed
 IsLoginWork-zero_limit password field number rounds scheme done makes above (inr (kept, inr (other, also, is), hashed, _)) =
     let one : other ≡ scheme = IsSchemeMade-unique TakesNewRounds TakesNewRounds number rounds other scheme also makes in
-    let price : cost kept (length password) ≡ new_cost scheme (length password) =
+    let same_cost : cost kept (length password) ≡ new_cost scheme (length password) =
     ap (λ (own : SettingValue). cost own (length password)) is ∙ cost-salted other (0 ∷ 0 ∷ 0 ∷ []) (length password)
     ∙ ap (λ (own : Scheme). new_cost own (length password)) one in
-    no_work-zero_limit password kept done (omega (arith, price, above)) hashed
+    no_work-zero_limit password kept done (omega (arith, same_cost, above)) hashed
 
 -- No password opens a stored hash within a limit of 0.
 pub not_Opens-zero_limit : (password stored : List ℕ) → Opens password stored 0 → ⊥

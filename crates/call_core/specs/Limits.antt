@@ -104,12 +104,12 @@ ReportsRounds len number rounds limit report =
 
 -- AreFitted len number limit scheme report: what holds of the reported rounds and cost, for a policy with this scheme.
 --   makes   the method takes the rounds for new hashes, whose scheme is `own`
---   price   a new hash of a password of this length with these rounds has the reported cost
+--   cost    a new hash of a password of this length with these rounds has the reported cost
 --   within  the cost is at most the limit
 --   fewer   the rounds are no more than the policy's
 pub record AreFitted (len number limit : ℕ) (scheme : Scheme) (report : Report) : Type 0 where
   pub own : Scheme
   pub makes : IsSchemeMade TakesNewRounds number report.rounds own
-  pub price : report.cost ≡ new_cost own len
+  pub cost : report.cost ≡ new_cost own len
   pub within : report.cost ≤ limit
   pub fewer : is_outdated_by scheme own ≡ false
