@@ -185,7 +185,7 @@ def test_implementations_of_counted_export_only_their_types() -> None:
 
 
 def test_2_to_the_40_reads_and_writes_are_allowed() -> None:
-    assert "\nconst TURNS: u64 = 1 << 40;\n" in read(CRATES / "program/src/main.rt")
+    assert "\nconst IO_CALL_LIMIT: u64 = 1 << 40;\n" in read(CRATES / "program/src/main.rt")
 
 
 def test_runs_call_inspect_for_each_complete_line(code: list[Line]) -> None:

@@ -18,7 +18,7 @@ use Rattle.crypt_core.specs.declared.standing.Standing.{Standing}
 use Rattle.crypt_core.specs.declared.standing.Standing.TheVariants as standings
 use Rattle.call_core.specs.Arguments.{IsSchemeMade, TakesNewRounds}
 use Rattle.call_core.specs.Audits.{ForeseesLogins, IsCurrent, Passes, audit_report, standing_report, with_scheme}
-use Rattle.call_core.specs.Limits.{limit_of, policy_limit, twice}
+use Rattle.call_core.specs.Limits.{default_budget, limit_of, policy_limit}
 use Rattle.call_core.specs.declared.limit.Limit.TheVariants.{Policy}
 use Rattle.call_core.specs.Logins.{IsUncheckable}
 use Rattle.call_core.specs.Reasons.{reason_row, setting_reason}
@@ -110,16 +110,16 @@ Passes_from_IsCurrent number rounds budget new field finding makes judges (kept,
 
 -- With a budget of 0 and a valid method and rounds, the limit of a login with the empty password is the policy's.
 limit_of-empty_password : (number rounds : ℕ) (scheme : Scheme) → IsSchemeMade TakesNewRounds number rounds scheme
-    → limit_of number rounds twice 0 ≡ policy_limit scheme
+    → limit_of number rounds default_budget 0 ≡ policy_limit scheme
 limit_of-empty_password number rounds scheme makes =
     limit_by-policy_limit scheme 0 _ (limit_in-allowance number rounds scheme Policy 0 makes) (omega arith) (new_cost-empty-le scheme)
 
 -- With a budget of 0 and a valid method and rounds, a login with the empty password can check a hash whose cost for it
 -- is within the policy's limit.
 pub not_IsUncheckable-policy_limit : (field : List ℕ) (kept : SettingValue) (number rounds : ℕ) (scheme : Scheme) → Spells field kept
-    → IsSchemeMade TakesNewRounds number rounds scheme → cost kept 0 ≤ policy_limit scheme → ¬ IsUncheckable [] field (limit_of number rounds twice 0)
+    → IsSchemeMade TakesNewRounds number rounds scheme → cost kept 0 ≤ policy_limit scheme → ¬ IsUncheckable [] field (limit_of number rounds default_budget 0)
 not_IsUncheckable-policy_limit field kept number rounds scheme spells makes within un =
-    let above : limit_of number rounds twice 0 < cost kept 0 = un kept spells in
+    let above : limit_of number rounds default_budget 0 < cost kept 0 = un kept spells in
     let limit = limit_of-empty_password number rounds scheme makes in
     omega (arith, above, within, limit)
 
@@ -155,7 +155,7 @@ Hash_from_IsJudged findings.Unknown judged = absurd (not_IsJudged-refused reason
 Hash_from_IsJudged findings.NoScheme judged = absurd (not_IsJudged-refused reasons.NoScheme 0 (λ is. absurd (cc is)) judged)
 
 -- With a budget of 0, a hash whose standing isn't OverBudget is not over the budget.
-not_IsOverBudget_from_HasStanding : (new : Scheme) (field : List ℕ) (kept : SettingValue) (told : Standing) → HasStanding new 0 field kept told → told ≢ standings.OverBudget
+not_IsOverBudget_from_HasStanding : (new : Scheme) (field : List ℕ) (kept : SettingValue) (reported : Standing) → HasStanding new 0 field kept reported → reported ≢ standings.OverBudget
     → ¬ IsOverBudget new 0 kept
 not_IsOverBudget_from_HasStanding new field kept standings.OverBudget has other = absurd (other refl)
 not_IsOverBudget_from_HasStanding new field kept standings.Dead has other = has.0

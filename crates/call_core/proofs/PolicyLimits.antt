@@ -12,7 +12,7 @@ use Rattle.std.proofs.lemmas.Bool.Decides.{nat_tests}
 use Rattle.std.proofs.Math.Nat.{mul-le-mul_right}
 use Rattle.prims_core.specs.Work.{no_work}
 use Rattle.prims_core.specs.declared.meter.Work.{Work}
-use Rattle.crypt_core.specs.Crypt.{IsAfterRefusedGrowth}
+use Rattle.crypt_core.specs.Crypt.{IsAfterFailedAllocation}
 use Rattle.crypt_core.specs.MadeSettings.{made_scheme, salted}
 use Rattle.crypt_core.specs.Methods.{method_row}
 use Rattle.crypt_core.specs.Passwords.{password_limit}
@@ -33,7 +33,7 @@ use Rattle.call_core.specs.Checks.{Opens}
 use Rattle.call_core.specs.Limits.{allowance, limit_by, limit_bytes, limit_in, method_limit, new_cost, policy_limit, takes_new_rounds}
 use Rattle.call_core.specs.declared.limit.Limit.{Limit}
 use Rattle.call_core.specs.declared.limit.Limit.TheVariants.{Policy, Bytes}
-use Rattle.call_core.specs.Logins.{IsHashWork, IsLoginWork, decoy}
+use Rattle.call_core.specs.Logins.{IsHashWork, IsLoginWork, dummy}
 use Rattle.call_core.proofs.MadeSchemes.{IsSchemeMade-unique}
 
 -- ---- The limit of a call
@@ -88,12 +88,12 @@ pub cost-salted : (scheme : Scheme) (numbers : List ℕ) (len : ℕ) → cost (s
 cost-salted scheme numbers len = ap (cost_by scheme len) (length-made_salt numbers (method_row (method_of scheme)).made_salt_length)
 
 -- If the policy's limit admits a new hash of a password, the dummy hash is made, unless scrypt lacks memory.
-pub decoy_work-policy_limit : (password : List ℕ) (scheme : Scheme) (limit : ℕ) (done : Work) → limit ≡ policy_limit scheme
-    → new_cost scheme (length password) ≤ policy_limit scheme → IsHashWork password (decoy scheme) limit done
-    → (done ≡ work password (decoy scheme)) ⊎ IsAfterRefusedGrowth no_work scheme done
-decoy_work-policy_limit password scheme limit done is within hashed =
+pub dummy_work-policy_limit : (password : List ℕ) (scheme : Scheme) (limit : ℕ) (done : Work) → limit ≡ policy_limit scheme
+    → new_cost scheme (length password) ≤ policy_limit scheme → IsHashWork password (dummy scheme) limit done
+    → (done ≡ work password (dummy scheme)) ⊎ IsAfterFailedAllocation no_work scheme done
+dummy_work-policy_limit password scheme limit done is within hashed =
     let below : nat_lt limit (new_cost scheme (length password)) ≡ false = grind (arith, is, within) in
-    let test : nat_lt limit (cost (decoy scheme) (length password)) ≡ false =
+    let test : nat_lt limit (cost (dummy scheme) (length password)) ≡ false =
     ap (nat_lt limit) (cost-salted scheme (0 ∷ 0 ∷ 0 ∷ []) (length password)) ∙ below in
     rw test at hashed
 
@@ -153,10 +153,10 @@ IsLoginWork-zero_limit password field number rounds scheme done makes above (inr
     no_work-zero_limit password kept done (Spells-cost_positive field kept (length password) spells) hashed
 IsLoginWork-zero_limit password field number rounds scheme done makes above (inr (kept, inr (other, also, is), hashed, _)) =
     let one : other ≡ scheme = IsSchemeMade-unique TakesNewRounds TakesNewRounds number rounds other scheme also makes in
-    let price : cost kept (length password) ≡ new_cost scheme (length password) =
+    let same_cost : cost kept (length password) ≡ new_cost scheme (length password) =
     ap (λ (own : SettingValue). cost own (length password)) is ∙ cost-salted other (0 ∷ 0 ∷ 0 ∷ []) (length password)
     ∙ ap (λ (own : Scheme). new_cost own (length password)) one in
-    no_work-zero_limit password kept done (omega (arith, price, above)) hashed
+    no_work-zero_limit password kept done (omega (arith, same_cost, above)) hashed
 
 -- No password opens a stored hash within a limit of 0: the stored hash spells a setting (`opens.1.1`), whose cost is
 -- positive, but it would be at most the limit (`opens.1.3`).

@@ -11,7 +11,7 @@ use Rattle.crypt_core.specs.Crypt.{crypt}
 use Rattle.crypt_core.specs.Settings.{SettingValue}
 use Rattle.crypt_core.specs.Work.{work}
 use Rattle.call_core.specs.Hashes.{Hashes, PutsHash, admission}
-use Rattle.call_core.specs.Private.Hashes.{IsPut, IsTold, MakesHash, MakesHashOf}
+use Rattle.call_core.specs.Private.Hashes.{IsPut, IsReported, MakesHash, MakesHashOf}
 use Rattle.call_core.specs.Reports.{LacksMemory, Leaves, put, succeeded, token}
 use Rattle.call_core.specs.declared.report.Report.{Report}
 
@@ -19,16 +19,16 @@ use Rattle.call_core.specs.declared.report.Report.{Report}
 IsPut-admission : (password text : List ℕ) (kept : SettingValue) (lock old : List ℕ) (made : Result (List ℕ × Report) Report) (report : Report) (new : List ℕ)
     (admitted : Result ℕ Report)
     → MatchResult admitted
-    (λ most. (made ≡ Ok (text, succeeded (length text) most (work password kept)))
-    ⊎ ((told : Report) × (made ≡ Err told) × LacksMemory kept most told))
+    (λ hash_cost. (made ≡ Ok (text, succeeded (length text) hash_cost (work password kept)))
+    ⊎ ((reported : Report) × (made ≡ Err reported) × LacksMemory kept hash_cost reported))
     (λ refusal. made ≡ Err refusal)
     → IsPut made lock old report new
     → MatchResult admitted
-    (λ most. Leaves (succeeded (length text) most (work password kept)) text old report new
-    ⊎ (LacksMemory kept most report × Leaves report lock old report new))
+    (λ hash_cost. Leaves (succeeded (length text) hash_cost (work password kept)) text old report new
+    ⊎ (LacksMemory kept hash_cost report × Leaves report lock old report new))
     (λ refusal. Leaves refusal lock old report new)
-IsPut-admission password text kept lock old made report new (Ok most) (inl e) put = inl (rw e at put)
-IsPut-admission password text kept lock old made report new (Ok most) (inr (told, e, lacks)) put =
+IsPut-admission password text kept lock old made report new (Ok hash_cost) (inl e) put = inl (rw e at put)
+IsPut-admission password text kept lock old made report new (Ok hash_cost) (inr (reported, e, lacks)) put =
     let left = rw e at put in
     inr (rw left.0 lacks, (refl, left.1))
 IsPut-admission password text kept lock old made report new (Err refusal) e put = rw e at put
@@ -56,12 +56,12 @@ take-put text (b ∷ rest) room =
 
 -- If the error is 0, what holds of the hash that was made holds of the first `length` bytes of `out`.
 pub IsPut-whole : (Holds : List ℕ → Type 0) (budget : ℕ) (lock old : List ℕ) (done : Work) (made : Result (List ℕ × Report) Report) (report : Report)
-    (new : List ℕ) → IsTold budget (length old) done made → IsPut made lock old report new → IfOk made (λ both. Holds both.0)
+    (new : List ℕ) → IsReported budget (length old) done made → IsPut made lock old report new → IfOk made (λ both. Holds both.0)
     → report.error ≡ 0 → Holds (take report.length new)
-IsPut-whole Holds budget lock old done (Ok (text, told)) report new says is_put holds positive =
-    let same : report ≡ told = is_put.0 in
+IsPut-whole Holds budget lock old done (Ok (text, reported)) report new says is_put holds positive =
+    let same : report ≡ reported = is_put.0 in
     let e : take report.length new ≡ text = rw (same, is_put.1, says.1) (take-put text old says.2) in
     subst Holds (sym e) holds
-IsPut-whole Holds budget lock old done (Err told) report new says is_put holds positive =
-    let same : report ≡ told = is_put.0 in
+IsPut-whole Holds budget lock old done (Err reported) report new says is_put holds positive =
+    let same : report ≡ reported = is_put.0 in
     absurd (says.0 (rw same at positive))

@@ -31,7 +31,7 @@ use Rattle.call_core.specs.Private.Hashes.{MakesHashAnew}
 pub MakesHashAnew-no_numbers : (password : List ℕ) (number rounds : ℕ) (numbers : List ℕ) (budget room : ℕ) (scheme : Scheme) (admitted : Result ℕ Report)
     (made : Result (List ℕ × Report) Report) → IsPassword password → IsSchemeMade TakesNewRounds number rounds scheme
     → (length numbers == 3) ≡ false → admitted ≡ admission budget room password (salted scheme (0 ∷ 0 ∷ 0 ∷ []))
-    → MatchResult admitted (λ most. made ≡ Err (refused NoRandomNumbers most)) (λ refusal. made ≡ Err refusal)
+    → MatchResult admitted (λ hash_cost. made ≡ Err (refused NoRandomNumbers hash_cost)) (λ refusal. made ≡ Err refusal)
     → MakesHashAnew password number rounds numbers budget room made
 MakesHashAnew-no_numbers password number rounds numbers budget room scheme admitted made is makes missing e fails =
     inl (is, inl (scheme, makes, rw missing (rw e at fails)))
@@ -47,10 +47,10 @@ MakesHashAnew-numbers password number rounds numbers budget room scheme made is 
 
 -- Without three random numbers the call reports the refusal and writes the token.
 IsPut-no_numbers : (old : List ℕ) (made : Result (List ℕ × Report) Report) (report : Report) (new : List ℕ) (admitted : Result ℕ Report)
-    → MatchResult admitted (λ most. made ≡ Err (refused NoRandomNumbers most)) (λ refusal. made ≡ Err refusal)
+    → MatchResult admitted (λ hash_cost. made ≡ Err (refused NoRandomNumbers hash_cost)) (λ refusal. made ≡ Err refusal)
     → IsPut made (token []) old report new
-    → MatchResult admitted (λ most. Leaves (refused NoRandomNumbers most) (token []) old report new) (λ refusal. Leaves refusal (token []) old report new)
-IsPut-no_numbers old made report new (Ok most) e put = rw e at put
+    → MatchResult admitted (λ hash_cost. Leaves (refused NoRandomNumbers hash_cost) (token []) old report new) (λ refusal. Leaves refusal (token []) old report new)
+IsPut-no_numbers old made report new (Ok hash_cost) e put = rw e at put
 IsPut-no_numbers old made report new (Err refusal) e put = rw e at put
 
 -- Making a new hash and writing it has the effect `HashesAnew`, with three random numbers and without.
@@ -59,13 +59,13 @@ IsPut-numbers : (password : List ℕ) (scheme : Scheme) (numbers : List ℕ) (bu
     → MatchBool three
     (MakesHash password (salted scheme numbers) budget (length old) made)
     (MatchResult (admission budget (length old) password (salted scheme (0 ∷ 0 ∷ 0 ∷ [])))
-    (λ most. made ≡ Err (refused NoRandomNumbers most))
+    (λ hash_cost. made ≡ Err (refused NoRandomNumbers hash_cost))
     (λ refusal. made ≡ Err refusal))
     → IsPut made (token []) old report new
     → MatchBool three
     (PutsHash password (salted scheme numbers) budget (token []) old report new)
     (MatchResult (admission budget (length old) password (salted scheme (0 ∷ 0 ∷ 0 ∷ [])))
-    (λ most. Leaves (refused NoRandomNumbers most) (token []) old report new)
+    (λ hash_cost. Leaves (refused NoRandomNumbers hash_cost) (token []) old report new)
     (λ refusal. Leaves refusal (token []) old report new))
 IsPut-numbers password scheme numbers budget old made report new true makes put =
     PutsHash_from_IsPut password (salted scheme numbers) budget (token []) old made report new makes put

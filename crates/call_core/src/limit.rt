@@ -15,7 +15,7 @@ use crypt_core::scheme::Scheme;
 
 /// The budget that means the limit of the policy ([`Scheme::policy_limit`]): twice the cost of a new hash of a password
 /// of 64 bytes, but at least a fixed number.
-const TWICE: u64 = 0;
+const DEFAULT_BUDGET: u64 = 0;
 
 /// The limit on the cost of a login and of a new hash.
 #[derive(Clone, Copy, Debug, PartialEq, Eq)]
@@ -31,7 +31,7 @@ impl Limit {
     pub fn of(budget: u64) -> Limit
         ensures { result ≡ meant budget }
     {
-        if budget == TWICE {
+        if budget == DEFAULT_BUDGET {
             Limit::Policy
         } else {
             Limit::Bytes(budget)

@@ -41,9 +41,9 @@ pub fn login_need(password: &[u8], field: &[u8], method: u32, rounds: u32, limit
         return stored.setting().scheme().need();
     }
     // The setting of the dummy hash that `log_in` makes.
-    let decoy = Setting::salted(request.scheme, [0; 3]);
-    match cost_within(&request.password, &decoy, request.limit) {
-        Ok(_) => decoy.scheme().need(),
+    let dummy = Setting::salted(request.scheme, [0; 3]);
+    match cost_within(&request.password, &dummy, request.limit) {
+        Ok(_) => dummy.scheme().need(),
         Err(_) => NOTHING,
     }
 }

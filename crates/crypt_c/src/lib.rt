@@ -29,7 +29,7 @@ ghost use Rattle.call_core.specs.Arguments.{IsSchemeMade, TakesNewRounds};
 ghost use Rattle.call_core.specs.Audits.{Audits, ForeseesLogins, IsCurrent};
 ghost use Rattle.call_core.specs.Checks.{IsDead, Opens, Verifies};
 ghost use Rattle.call_core.specs.Hashes.{Hashes, HashesAnew};
-ghost use Rattle.call_core.specs.Limits.{AreFitted, ReportsRounds, Limits, limit_bytes, limit_of, meant, new_cost, policy_limit, twice};
+ghost use Rattle.call_core.specs.Limits.{AreFitted, ReportsRounds, Limits, default_budget, limit_bytes, limit_of, meant, new_cost, policy_limit};
 ghost use Rattle.call_core.specs.Logins.{JudgesStoredHash, LogsIn, TreatsFieldsAlike};
 ghost use Rattle.call_core.specs.Names.{PutsMessage, PutsSchemeName};
 ghost use Rattle.call_core.specs.Reasons.{reason_row};
@@ -47,7 +47,7 @@ use call_core::message::put_message;
 use call_core::name::put_scheme_name;
 use call_core::new_hash::put_new_hash;
 use call_core::rehash::report_rehash;
-use call_core::report::{Report, tell, tell_current, tell_outdated};
+use call_core::report::{Report, write_report, write_report_is_current, write_report_is_outdated};
 use call_core::setting::put_setting_with_salt;
 use call_core::verify::verify;
 use crypt_core::version::VERSION_NUMBER;
@@ -87,7 +87,7 @@ pub extern "C" fn mkpasswd_proved_verify(
     ensures verifies { Verifies password.now stored.now budget report.new }
 {
     let mut heap = alloc;
-    tell(
+    write_report(
         report,
         verify(&mut heap, password, stored, budget, &mut Meter::new()),
     )
@@ -141,7 +141,7 @@ pub extern "C" fn mkpasswd_proved_login(
     ensures treats_alike { TreatsFieldsAlike password.now field.now method rounds budget result report.new }
 {
     let mut heap = alloc;
-    tell(
+    write_report(
         report,
         log_in(
             &mut heap,
@@ -190,7 +190,7 @@ pub extern "C" fn mkpasswd_proved_new_from(
     ensures answers { Answers result report.new }
     ensures hashes { HashesAnew password.now method rounds (limit_of method rounds budget (length password.now)) numbers.now out.old report.new out.new }
     ensures locked { result ≡ pos 0 → out.new ≡ put (token []) out.old }
-    ensures writes { (scheme : Scheme) → IsSchemeMade TakesNewRounds method rounds scheme → budget ≡ twice → IsPassword password.now
+    ensures writes { (scheme : Scheme) → IsSchemeMade TakesNewRounds method rounds scheme → budget ≡ default_budget → IsPassword password.now
         → new_cost scheme (length password.now) ≤ policy_limit scheme → length numbers.now ≡ 3
         → length (crypt password.now (salted scheme numbers.now)) < length out.old
         → (result ≡ pos 1) ⊎ (report.new.error ≡ (reason_row OutOfMemory).0) }
@@ -198,7 +198,7 @@ pub extern "C" fn mkpasswd_proved_new_from(
     ensures then_current { result ≡ pos 1 → Rehashes (take report.new.length out.new) method rounds (found 0 0 no_work) }
 {
     let mut heap = alloc;
-    tell(
+    write_report(
         report,
         put_new_hash(
             &mut heap,
@@ -234,7 +234,7 @@ pub extern "C" fn mkpasswd_needs_rehash_bytes(
     ensures outdated { result ≡ pos 1 ↔ IsOutdated stored.now method rounds }
     ensures rehashes { Rehashes stored.now method rounds report.new }
 {
-    tell_outdated(report, report_rehash(stored, method, rounds))
+    write_report_is_outdated(report, report_rehash(stored, method, rounds))
 }
 
 /// Audits the stored hash in a field. Returns 1 if it is current: it is whole, no hash with its setting costs more than
@@ -276,7 +276,7 @@ pub extern "C" fn mkpasswd_audit_bytes(
     ensures checked { ForeseesLogins field.now method rounds budget report.new }
     ensures idle { report.new.work ≡ no_work }
 {
-    tell_current(report, report_audit(field, method, rounds, budget))
+    write_report_is_current(report, report_audit(field, method, rounds, budget))
 }
 
 /// Reports the limit on the cost of a login and of a new hash for a method, rounds and a budget, and the length of the
@@ -300,7 +300,7 @@ pub extern "C" fn mkpasswd_limit_bytes(
     ensures answers { Answers result report.new }
     ensures limits { Limits method rounds (meant budget) report.new }
 {
-    tell(report, report_limit(method, rounds, Limit::of(budget)))
+    write_report(report, report_limit(method, rounds, Limit::of(budget)))
 }
 
 /// Reports rounds with which a new hash of any password of this length is within the limit for a method, rounds and a
@@ -332,10 +332,10 @@ pub extern "C" fn mkpasswd_rounds_bytes(
     ensures none { (scheme : Scheme) → IsSchemeMade TakesNewRounds method rounds scheme → password_len ≤ password_limit
         → result ≡ pos 0 → NeverFits scheme (limit_bytes (meant budget) scheme) password_len }
     ensures policy { (scheme : Scheme) → IsSchemeMade TakesNewRounds method rounds scheme → password_len ≤ password_limit
-        → budget ≡ twice → result ≡ pos 1 }
+        → budget ≡ default_budget → result ≡ pos 1 }
 {
-    let told = report_rounds(password_len, method, rounds, Limit::of(budget));
-    tell(report, told)
+    let reported = report_rounds(password_len, method, rounds, Limit::of(budget));
+    write_report(report, reported)
 }
 
 /// Reports the greatest cost and the greatest work of a hash with this setting, for any password of this length. The
@@ -354,7 +354,7 @@ pub extern "C" fn mkpasswd_bound_bytes(
     ensures answers { Answers result report.new }
     ensures bounds { Bounds password_len stored.now report.new }
 {
-    tell(report, report_bound(password_len, stored))
+    write_report(report, report_bound(password_len, stored))
 }
 
 /// Hashes a password with a setting, and writes the hash and a zero byte to `out`. With the same budget,
@@ -385,8 +385,8 @@ pub extern "C" fn mkpasswd_proved_hash(
     ensures apart { (token setting.now ≢ setting.now) × ((kept : SettingValue) → ¬ Spells (token setting.now) kept) }
 {
     let mut heap = alloc;
-    let told = put_hash(&mut heap, password, setting, budget, out, &mut Meter::new());
-    tell(report, told)
+    let reported = put_hash(&mut heap, password, setting, budget, out, &mut Meter::new());
+    write_report(report, reported)
 }
 
 /// Makes a setting with a method, the rounds and a given salt, and writes it and a zero byte to `out`.
@@ -410,8 +410,8 @@ pub extern "C" fn mkpasswd_setting_bytes(
     ensures puts { PutsGivenSetting method rounds salt.now out.old report.new out.new }
     ensures locked { result ≡ pos 0 → out.new ≡ put (token []) out.old }
 {
-    let told = put_setting_with_salt(method, rounds, salt, out);
-    tell(report, told)
+    let reported = put_setting_with_salt(method, rounds, salt, out);
+    write_report(report, reported)
 }
 
 /// Writes the message for the reason with this number to `out`, followed by a zero byte. If `out` is too small, the

@@ -28,10 +28,10 @@ pub const SETTING_LIMIT: usize = 384;
 const ROUNDS_WORD: &[u8] = b"rounds=";
 
 /// The number of characters of scrypt's cost part, which encodes N, r and p: one for log2 N, five for r and five for p.
-pub(crate) const COST_CHARACTERS: usize = 1 + 5 + 5;
+pub(crate) const SCRYPT_PART_LEN: usize = 1 + 5 + 5;
 
 /// The most bytes of a setting in canonical form: scrypt's prefix of 3 bytes, its cost part and its salt.
-pub const CANONICAL_LIMIT: usize = 3 + COST_CHARACTERS + SCRYPT_SALT_LIMIT;
+pub const CANONICAL_LIMIT: usize = 3 + SCRYPT_PART_LEN + SCRYPT_SALT_LIMIT;
 
 /// The capacity in bytes of a buffer for a setting or a hash. The longest hash has 144 bytes
 /// ([`HASH_LIMIT`](crate::hash::HASH_LIMIT)).

@@ -37,7 +37,7 @@ ghost use Rattle.call_core.specs.Arguments.{IsSchemeMade, TakesNewRounds};
 ghost use Rattle.call_core.specs.Audits.{Audits, ForeseesLogins, IsCurrent};
 ghost use Rattle.call_core.specs.Checks.{IsDead, Opens, Verifies};
 ghost use Rattle.call_core.specs.Hashes.{Hashes};
-ghost use Rattle.call_core.specs.Limits.{AreFitted, ReportsRounds, Limits, limit_bytes, limit_of, meant, twice};
+ghost use Rattle.call_core.specs.Limits.{AreFitted, ReportsRounds, Limits, default_budget, limit_bytes, limit_of, meant};
 ghost use Rattle.call_core.specs.Logins.{JudgesStoredHash, LogsIn, TreatsFieldsAlike};
 ghost use Rattle.call_core.specs.Names.{PutsMessage, PutsSchemeName};
 ghost use Rattle.call_core.specs.Needs.{HashesWith, IsNeed, LoginHashesWith};
@@ -56,7 +56,7 @@ use call_core::message::put_message;
 use call_core::name::put_scheme_name;
 use call_core::need::{hash_need, login_need};
 use call_core::rehash::report_rehash;
-use call_core::report::{Report, tell, tell_current, tell_outdated};
+use call_core::report::{Report, write_report, write_report_is_current, write_report_is_outdated};
 use call_core::setting::put_setting;
 use call_core::verify::verify;
 use crypt_core::memory::Lent;
@@ -99,8 +99,8 @@ pub extern "C" fn web_verify(
     ensures bytes { report.new.work.bytes ≤ budget }
 {
     let mut lent = Lent::new(words, bytes);
-    let told = verify(&mut lent, password, stored, budget, &mut Meter::new());
-    tell(report, told)
+    let reported = verify(&mut lent, password, stored, budget, &mut Meter::new());
+    write_report(report, reported)
 }
 
 /// Checks the password of a login, as `mkpasswd_login` does for C. Returns 1 exactly if a new hash can have the method
@@ -157,7 +157,7 @@ pub extern "C" fn web_login(
     ensures bytes { report.new.work.bytes ≤ limit_of method rounds budget (length password.now) }
 {
     let mut lent = Lent::new(words, bytes);
-    let told = log_in(
+    let reported = log_in(
         &mut lent,
         password,
         field,
@@ -166,7 +166,7 @@ pub extern "C" fn web_login(
         Limit::of(budget),
         &mut Meter::new(),
     );
-    tell(report, told)
+    write_report(report, reported)
 }
 
 /// Reports the memory that [`web_login`] needs with these arguments: that of the stored hash if it can be checked
@@ -208,7 +208,7 @@ pub extern "C" fn web_needs_rehash(
     ensures outdated { result ≡ pos 1 ↔ IsOutdated stored.now method rounds }
     ensures rehashes { Rehashes stored.now method rounds report.new }
 {
-    tell_outdated(report, report_rehash(stored, method, rounds))
+    write_report_is_outdated(report, report_rehash(stored, method, rounds))
 }
 
 /// Hashes a password with a setting, and writes the hash and a zero byte to `out`. With the same budget, [`web_verify`]
@@ -243,8 +243,8 @@ pub extern "C" fn web_hash(
     ensures apart { (token setting.now ≢ setting.now) × ((kept : SettingValue) → ¬ Spells (token setting.now) kept) }
 {
     let mut lent = Lent::new(words, bytes);
-    let told = put_hash(&mut lent, password, setting, budget, out, &mut Meter::new());
-    tell(report, told)
+    let reported = put_hash(&mut lent, password, setting, budget, out, &mut Meter::new());
+    write_report(report, reported)
 }
 
 /// Reports the memory that [`web_verify`] or [`web_hash`] needs with this password and budget. `text` is the stored
@@ -280,7 +280,7 @@ pub extern "C" fn web_setting(
     ensures puts { PutsSetting method rounds (first ∷ second ∷ third ∷ []) out.old report.new out.new }
     ensures locked { result ≡ pos 0 → out.new ≡ put (token []) out.old }
 {
-    tell(
+    write_report(
         report,
         put_setting(method, rounds, [first, second, third], out),
     )
@@ -325,7 +325,7 @@ pub extern "C" fn web_audit(
     ensures checked { ForeseesLogins field.now method rounds budget report.new }
     ensures idle { report.new.work ≡ no_work }
 {
-    tell_current(report, report_audit(field, method, rounds, budget))
+    write_report_is_current(report, report_audit(field, method, rounds, budget))
 }
 
 /// Reports the limit on the cost of a login and of a new hash for a method, rounds and a budget, and the length of the
@@ -344,7 +344,7 @@ pub extern "C" fn web_limit(method: u32, rounds: u32, budget: u64, report: &mut 
     ensures answers { Answers result report.new }
     ensures limits { Limits method rounds (meant budget) report.new }
 {
-    tell(report, report_limit(method, rounds, Limit::of(budget)))
+    write_report(report, report_limit(method, rounds, Limit::of(budget)))
 }
 
 /// Reports rounds with which a new hash of any password of this length is within the limit for a method, rounds and a
@@ -376,10 +376,10 @@ pub extern "C" fn web_rounds(
     ensures none { (scheme : Scheme) → IsSchemeMade TakesNewRounds method rounds scheme → password_len ≤ password_limit
         → result ≡ pos 0 → NeverFits scheme (limit_bytes (meant budget) scheme) password_len }
     ensures policy { (scheme : Scheme) → IsSchemeMade TakesNewRounds method rounds scheme → password_len ≤ password_limit
-        → budget ≡ twice → result ≡ pos 1 }
+        → budget ≡ default_budget → result ≡ pos 1 }
 {
-    let told = report_rounds(password_len, method, rounds, Limit::of(budget));
-    tell(report, told)
+    let reported = report_rounds(password_len, method, rounds, Limit::of(budget));
+    write_report(report, reported)
 }
 
 /// Reports the greatest cost and the greatest work of a hash with this setting, for any password of this length. The
@@ -394,7 +394,7 @@ pub extern "C" fn web_cost(setting: &[u8], password_len: usize, report: &mut Rep
     ensures answers { Answers result report.new }
     ensures bounds { Bounds password_len setting.now report.new }
 {
-    tell(report, report_bound(password_len, setting))
+    write_report(report, report_bound(password_len, setting))
 }
 
 /// Writes the message for the reason with this number to `out`, followed by a zero byte. If `out` is too small, the

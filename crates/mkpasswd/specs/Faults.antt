@@ -37,8 +37,8 @@ fault_row (Run fault) = run_row fault
 abbrev pub fault_line : Fault → List ℕ
 fault_line fault = as_line (codes "mkpasswd: " ++ (fault_row fault).1)
 
--- IsTold fault old new: the command wrote the line that reports the error, in at most as many calls as this line has
--- bytes, and flushed it. If that failed, a prefix of the line may have been written.
-abbrev pub IsTold : {E : Type 0} → Fault → Device E → Device E → Type 0
-IsTold fault old new =
+-- IsReported fault old new: the command wrote the line that reports the error, in at most as many calls as this line
+-- has bytes, and flushed it. If that failed, a prefix of the line may have been written.
+abbrev pub IsReported : {E : Type 0} → Fault → Device E → Device E → Type 0
+IsReported fault old new =
     (result : Result Tally RunFault) × Shows (length (fault_line fault)) old new (fault_line fault) result

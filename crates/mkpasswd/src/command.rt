@@ -4,7 +4,7 @@ ghost use Rattle.crypt_core.specs.Methods.{method_named};
 ghost use Rattle.crypt_core.specs.declared.method.Method.{Method};
 ghost use Rattle.mkpasswd.specs.Commands.{IsAsked, Serves, stream_in, wants_generator};
 ghost use Rattle.mkpasswd.specs.Corollaries.{IsNoOption, EndsWhole, PrintsHash, hash_arguments};
-ghost use Rattle.mkpasswd.specs.Faults.{IsTold, fault_line, fault_row};
+ghost use Rattle.mkpasswd.specs.Faults.{IsReported, fault_line, fault_row};
 ghost use Rattle.mkpasswd.specs.Private.Commands.{ErrorShown, RefusalShown, RunsOrLacks};
 ghost use Rattle.run_core.specs.Devices.{HasRoomWithinRun, turns_limit};
 ghost use Rattle.run_core.specs.Runs.{IsReady, run_state};
@@ -214,7 +214,7 @@ fn text_of(alloc: Global, error: &clap::Error) -> Result<String, AllocError> {
 /// within these limits.
 pub fn report_fault<E: Write>(fault: &Fault, faults: &mut Output<E>) -> u8
     requires room { HasRoomWithinRun faults.old }
-    ensures told { IsTold fault.now faults.old faults.new }
+    ensures reported { IsReported fault.now faults.old faults.new }
     ensures status { result ≡ (fault_row fault.now).0 }
 {
     let line = fault_line(fault);

@@ -47,7 +47,7 @@ hashings-last-nil done next none =
 
 -- An empty list of hashes contains no hash for which scrypt could not allocate memory.
 not_IsRefusedAmong-nil : (before after : Work) (hashings : List Hashing) (stream : Stream) → hashings ≡ [] → IsRefusedAmong before hashings after stream → ⊥
-not_IsRefusedAmong-nil before after hashings stream none (made, next, others, are, growth, same) =
+not_IsRefusedAmong-nil before after hashings stream none (made, next, others, are, failed, same) =
     let cut = append-nil-parts made (next ∷ others) (sym are ∙ none) in
     absurd (let some = cut.1 in cc)
 

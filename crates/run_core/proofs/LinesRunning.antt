@@ -19,7 +19,7 @@ use Rattle.run_core.specs.LineAnswers.{AreAnswers, IsAnswer}
 use Rattle.run_core.specs.LineRuns.{RunsLines, HasLines, lines_of, piece_size}
 use Rattle.run_core.specs.Output.{Takes, TakesFront}
 use Rattle.run_core.specs.Private.Answers.{IsRaisedBelow, Renders, counted, outcome_of}
-use Rattle.run_core.specs.Private.Deliveries.{FinishesBoth, IsFinished, IsKept, IsUnfinished, Sends}
+use Rattle.run_core.specs.Private.Deliveries.{FinishesBoth, HasSameContents, IsFinished, IsUnfinished, Sends}
 use Rattle.run_core.specs.Private.Fetching.{StopsFetching}
 use Rattle.run_core.specs.Private.Headroom.{HasRoomFor, HasRoomForLines, answer_limit, line_work_limit, to_read}
 use Rattle.run_core.specs.Private.Lines.{Represents}
@@ -94,17 +94,17 @@ StopsFetching-failures left start now fault (moves, inl stops) = omega (arith, s
 StopsFetching-failures left start now fault (moves, inr stops) = omega (arith, stops.1)
 
 -- A flush makes no I/O call, so `MovesBytes` holds for it.
-MovesBytes_from_IsKept : {T : Type 0} (old new : Device T) → IsKept old new → old.failures ≤ new.failures → MovesBytes 0 old new
-MovesBytes_from_IsKept old new kept failures = record {
+MovesBytes_from_HasSameContents : {T : Type 0} (old new : Device T) → HasSameContents old new → old.failures ≤ new.failures → MovesBytes 0 old new
+MovesBytes_from_HasSameContents old new kept failures = record {
   idle = omega (arith, kept.idle);
   calls = omega (arith, kept.calls, kept.bytes, failures);
 }
 
 MovesBytes_from_IsFinished : {T : Type 0} (old new : Device T) → IsFinished old new → MovesBytes 0 old new
-MovesBytes_from_IsFinished old new finished = MovesBytes_from_IsKept old new finished.kept (let unfailed = finished.unfailed in omega (arith, unfailed))
+MovesBytes_from_IsFinished old new finished = MovesBytes_from_HasSameContents old new finished.kept (let unfailed = finished.unfailed in omega (arith, unfailed))
 
 MovesBytes_from_IsUnfinished : {T : Type 0} (old new : Device T) → IsUnfinished old new → MovesBytes 0 old new
-MovesBytes_from_IsUnfinished old new unfinished = MovesBytes_from_IsKept old new unfinished.kept (let failed = unfinished.failed in omega (arith, failed))
+MovesBytes_from_IsUnfinished old new unfinished = MovesBytes_from_HasSameContents old new unfinished.kept (let failed = unfinished.failed in omega (arith, failed))
 
 -- Flushing both outputs makes no I/O call, and at most one flush fails.
 MovesBytes_from_FinishesBoth : {O E : Type 0} (out new_out : Device O) (faults new_faults : Device E) {A : Type 0} (result : Result A RunFault)

@@ -11,7 +11,7 @@ use Rattle.std.proofs.Common.{◌≡◌, ℕ, ◌+◌, ◌≤◌, List, [], ◌�
 use Rattle.std.specs.Prelude.{⊤}
 use Rattle.rand_core.specs.Stream.{Stream}
 use Rattle.prims_core.specs.declared.meter.Work.{Work}
-use Rattle.crypt_core.specs.Crypt.{IsAfterRefusedGrowth}
+use Rattle.crypt_core.specs.Crypt.{IsAfterFailedAllocation}
 use Rattle.crypt_core.specs.Passwords.{IsPassword, password_limit}
 use Rattle.crypt_core.specs.Work.{raised_by, work}
 use Rattle.run_core.specs.Answers.{hashings_of, new_hashing, password_answer}
@@ -119,7 +119,7 @@ module _ {I O E : Type 0} (turns : ℕ) (job : Job) where
   -- Exit without memory: if scrypt could not allocate memory for the hash, the run ends with `OutOfMemory`.
   pub EndsOne-out_of_memory : (from : PasswordFrom) (password : List ℕ) (old : RunState I O E) (input : Device I) (stream : Stream) (counts : Work) (left : ℕ)
       → ObtainsFrom from old.input input left (Ok password) → stream ≡ stream_after job.maker old.stream
-      → IsAfterRefusedGrowth old.counts (next_setting job.maker old.stream).scheme counts
+      → IsAfterFailedAllocation old.counts (next_setting job.maker old.stream).scheme counts
       → EndsOne turns job from old (outputs_kept old input stream counts) (Err OutOfMemory)
   EndsOne-out_of_memory from password old input stream counts left obtains drawn refused =
       let is = IsPassword_from_ObtainsFrom from old.input input left password obtains in

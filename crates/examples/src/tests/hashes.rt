@@ -166,27 +166,27 @@ fn hashes_in_lent_memory(rt: HostRuntime) -> Result<(), Fail> {
         let mut bytes = vec![in alloc; 0xff; need.bytes]?;
         let mut meter = Meter::new();
         let mut lent = Lent::new(&mut words, &mut bytes);
-        let fits = stored.matches(&mut lent, &password, &mut meter);
-        want(&rt, fits, Ok(true), "the password");
+        let is_match = stored.matches(&mut lent, &password, &mut meter);
+        want(&rt, is_match, Ok(true), "the password");
         want(&rt, counts(&meter), work, "work");
         let another = Password::new(b"another")?;
-        let fits = stored.matches(&mut lent, &another, &mut Meter::new());
-        want(&rt, fits, Ok(false), "another password");
+        let is_match = stored.matches(&mut lent, &another, &mut Meter::new());
+        want(&rt, is_match, Ok(false), "another password");
         // A check in too little memory returns this.
-        let refused = if need.words == 0 {
+        let wanted_in_too_little = if need.words == 0 {
             Ok(true)
         } else {
             Err(HashFault::OutOfMemory)
         };
         let _word = words.pop();
         let mut lent = Lent::new(&mut words, &mut bytes);
-        let fits = stored.matches(&mut lent, &password, &mut Meter::new());
-        want(&rt, fits, refused, "a word less");
+        let is_match = stored.matches(&mut lent, &password, &mut Meter::new());
+        want(&rt, is_match, wanted_in_too_little, "a word less");
         words.push(0)?;
         let _byte = bytes.pop();
         let mut lent = Lent::new(&mut words, &mut bytes);
-        let fits = stored.matches(&mut lent, &password, &mut Meter::new());
-        want(&rt, fits, refused, "a byte less");
+        let is_match = stored.matches(&mut lent, &password, &mut Meter::new());
+        want(&rt, is_match, wanted_in_too_little, "a byte less");
     }
     Ok(())
 }

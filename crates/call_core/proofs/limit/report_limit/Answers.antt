@@ -11,9 +11,9 @@ use Rattle.call_core.proofs.limit.report_limit.Goals as goal
 pub returns-in-Some-clause-used : goal.returns-in-Some-clause-used
 returns-in-Some-clause-used c = λ len positive short.
     let scheme = c.in-Ok.scheme in
-    let told = c.of_rounds.ensures in
-    let longest : c.of_rounds.result.length ≡ c.in-Some.longest = ap (λ (r : Report). r.length) told in
-    let cost : c.of_rounds.result.cost ≡ c.bytes-limit.result = ap (λ (r : Report). r.cost) told in
+    let reported = c.of_rounds.ensures in
+    let longest : c.of_rounds.result.length ≡ c.in-Some.longest = ap (λ (r : Report). r.length) reported in
+    let cost : c.of_rounds.result.cost ≡ c.bytes-limit.result = ap (λ (r : Report). r.cost) reported in
     let below : len ≤ password_limit = omega (arith, short, longest, c.in-Some.ensures.0) in
     let most : new_cost scheme len ≤ c.bytes-limit.result = (c.in-Some.ensures.1 len below).1 (omega (arith, short, longest)) in
     let within : new_cost scheme len ≤ limit_bytes c.args.limit scheme = rw c.bytes-limit.ensures at most in

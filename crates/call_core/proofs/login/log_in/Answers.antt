@@ -14,7 +14,7 @@ use Rattle.crypt_core.specs.Settings.{SettingValue}
 use Rattle.crypt_core.specs.Work.{cost}
 use Rattle.call_core.specs.Arguments.{TakesNewRounds}
 use Rattle.call_core.specs.Limits.{limit_in}
-use Rattle.call_core.specs.Logins.{IsMiss, decoy}
+use Rattle.call_core.specs.Logins.{IsMiss, dummy}
 use Rattle.call_core.specs.declared.reason.Reason.TheVariants.{Dead}
 use Rattle.call_core.proofs.CheckReports.{not_fits-IsDead}
 use Rattle.call_core.proofs.LoginReports.{LogsIn-compared, LogsIn-declined, is_outdated_by-eq, IsUncheckable-none_within}
@@ -25,7 +25,7 @@ pub returns-in-Err-checkable-clause-logs_in : goal.returns-in-Err-checkable-clau
 returns-in-Err-checkable-clause-logs_in g c =
     let password = c.in-Ok.ensures.password in
     rw (← c.in-Ok.ensures.limit) (LogsIn-declined c.args.password.now c.args.field.now c.args.method c.args.rounds (c.in-Ok.request).limit (c.in-Ok.request).scheme _ _ password.1 c.in-Ok.ensures.scheme
-    (rw password.0 at c.in-Err-checkable.ensures.refused) (rw (password.0, c.salted-decoy.ensures) at c.decline.ensures.declines))
+    (rw password.0 at c.in-Err-checkable.ensures.refused) (rw (password.0, c.salted-dummy.ensures) at c.decline.ensures.declines))
 
 pub returns-in-Ok-checkable-clause-logs_in : goal.returns-in-Ok-checkable-clause-logs_in
 returns-in-Ok-checkable-clause-logs_in g c =
@@ -47,8 +47,8 @@ returns-in-Ok-checkable-clause-replaced g c = λ none is.
     let same : kept ≡ is.0 = c.in-Ok-checkable.ensures.only is.0 is.2 in
     let made : scheme ≡ is.1 = IsSchemeMade-unique TakesNewRounds TakesRounds c.args.method c.args.rounds scheme is.1 c.in-Ok.ensures.scheme is.3 in
     let outdated : is_outdated_by kept.scheme scheme ≡ true = is_outdated_by-eq kept is.0 scheme is.1 same made is.4 in
-    let told : c.is_outdated_by-is_outdated.result ≡ true = cc in
-    rw told at (c.compare.ensures.same none).1
+    let reported : c.is_outdated_by-is_outdated.result ≡ true = cc in
+    rw reported at (c.compare.ensures.same none).1
 
 -- The clause `shut`: if the stored hash is dead (`dead`), the error is not 0. Otherwise (`none`) the password would
 -- match the stored hash, and no password matches a dead one.
@@ -80,7 +80,7 @@ returns-in-Ok-checkable-clause-dead g c = λ scheme kept made is spells dead low
     ] in
     let missed = c.compare.ensures.missed (λ fits. not_fits-IsDead (c.in-Ok.request).password c.args.field.now own found.spells (rw found.is_text at fits) (kept, spells, dead)) in
     elim missed [
-      | inl told ↦ inl (rw (is_dead, c.in-Ok-checkable.ensures.within.0, c.in-Ok.ensures.password.0, same) at told)
+      | inl reported ↦ inl (rw (is_dead, c.in-Ok-checkable.ensures.within.0, c.in-Ok.ensures.password.0, same) at reported)
       | inr lacks ↦ inr (rw same at lacks)
     ]
 
@@ -136,5 +136,5 @@ returns-in-Err-checkable-clause-enough g c = λ enough lacks.
     let never = IsUncheckable-none_within c.args.password.now c.args.field.now limit (λ kept spells low.
     absurd (cc (c.in-Err-checkable.ensures.admits kept spells (rw (password.0, c.in-Ok.ensures.limit) low)))) in
     c.decline.ensures.enough (λ within.
-    let low : cost (decoy scheme) (length c.args.password.now) ≤ limit = rw (← c.in-Ok.ensures.limit) (rw (password.0, c.salted-decoy.ensures) at within) in
-    rw c.salted-decoy.ensures (enough (decoy scheme) (scheme, c.in-Ok.ensures.scheme, password.1, inr (never, refl), low))) lacks
+    let low : cost (dummy scheme) (length c.args.password.now) ≤ limit = rw (← c.in-Ok.ensures.limit) (rw (password.0, c.salted-dummy.ensures) at within) in
+    rw c.salted-dummy.ensures (enough (dummy scheme) (scheme, c.in-Ok.ensures.scheme, password.1, inr (never, refl), low))) lacks

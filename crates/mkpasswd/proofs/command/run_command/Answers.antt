@@ -20,7 +20,7 @@ pub returns-in-Ok-clause-serves : goal.returns-in-Ok-clause-serves
 returns-in-Ok-clause-serves g c = (
   c.generator_for.result,
   Serves-run_fault c.args.turns _ _ _ _ c.in-Ok.plan _ _ c.report_fault.new.faults c.in-Err-run_plan.fault _
-      c.in-Ok.ensures c.generator_for.ensures c.in-Err-run_plan.ensures.runs c.report_fault.ensures.told c.report_fault.ensures.status,
+      c.in-Ok.ensures c.generator_for.ensures c.in-Err-run_plan.ensures.runs c.report_fault.ensures.reported c.report_fault.ensures.status,
 )
 
 -- ---- The arguments were refused

@@ -25,4 +25,4 @@ returns g c =
     let asked : ¬ ((kind_of c.args.error.now ≢ kind.DisplayHelp) × (kind_of c.args.error.now ≢ kind.DisplayVersion)) = λ both. true≢false (sym (c.use_stderr.ensures.1 both) ∙ c.if-use_stderr.false) in
     front c.as_bytes-message.result.now c.in-Err.fault (parse_status-help _ asked)
     (Shows-as_tally {A = Unit {0}} c.args.turns c.args.out.now c.show-shown.new.out c.as_bytes-message.result.now (Err c.in-Err.fault) c.in-Err.ensures)
-    c.report_fault-in-Err.ensures.told c.report_fault-in-Err.ensures.status
+    c.report_fault-in-Err.ensures.reported c.report_fault-in-Err.ensures.status
