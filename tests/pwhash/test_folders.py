@@ -33,7 +33,8 @@ from support.pwhash_runs import (
 # The user daemon has a group of its own, of the same name.
 DAEMON = 1
 NOBODY, GAMES = 65534, 60
-STARTED = ("/usr/bin/python3", "-I", "-S", str(PACKAGE / "pwhash/start.py"), str(LIBRARY), "pwhash")
+# The command that bin/pwhash runs. A shell in between would drop the rights of another user.
+START = ("/usr/bin/python3", "-I", "-S", str(PACKAGE / "pwhash/start.py"), str(LIBRARY), "pwhash")
 HASHES = ANN + BOB
 GENERATE = ("file", "--generate", "-R", "1000", "names", "-o", "own/hashes")
 
@@ -183,7 +184,7 @@ def test_another_value_of_sudos_variable_lets_nobody_in(
 @pytest.mark.needs("root")
 def test_a_set_user_id_program_believes_nobody_about_sudo() -> None:
     make_folder("theirs", 0o755, NOBODY)
-    command = ("setpriv", "--ruid=65534", "--keep-groups", "env", "SUDO_UID=65534", *STARTED)
+    command = ("setpriv", "--ruid=65534", "--keep-groups", "env", "SUDO_UID=65534", *START)
     done = ended(started_program(*command, "file", *MD5CRYPT, "passwords", "-o", "theirs/hashes"))
     assert_refused(done, b"belongs to another user", "theirs")
 

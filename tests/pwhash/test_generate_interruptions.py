@@ -39,7 +39,8 @@ WORDS = (*ONE, "--by", "class")
 QUICK = tuple("1000" if word == "20000" else word for word in WORDS)
 TABLE = b"name;class\n" + b"".join(b"user%d;c%d\n" % (n, n % CLASSES) for n in range(COUNT))
 PART = "hashes.part"
-STARTED = ("/usr/bin/python3", "-I", "-S", str(PACKAGE / "pwhash/start.py"), str(LIBRARY), "pwhash")
+# The command that bin/pwhash runs, so that strace counts only the calls from here on.
+START = ("/usr/bin/python3", "-I", "-S", str(PACKAGE / "pwhash/start.py"), str(LIBRARY), "pwhash")
 
 
 @pytest.fixture(autouse=True, name="table")
@@ -256,7 +257,7 @@ class TestResuming:
 )
 def test_the_run_after_one_killed_while_writing_lists_says_what_to_do(file: str) -> None:
     command = ["strace", "-qq", "-o", "/dev/null", "-P", file, "-e", "inject=openat:signal=KILL"]
-    ended(started_program(*command, *STARTED, *WORDS))
+    ended(started_program(*command, *START, *WORDS))
     assert set(os.listdir()) == {"table", "lists", PART} and not hashes_in(PART)
     before = {path.name: path.read_bytes() for path in pathlib.Path("lists").iterdir()}
     done = pwhash(*WORDS)
