@@ -1,7 +1,6 @@
 """Doubtful lines: fields that a spreadsheet damaged or quoted, headings, and rows of tables."""
 from __future__ import annotations
 
-
 import pytest
 from support.pwhash_runs import MD5CRYPT, hashed, lines_named_in, pwhash, read, save
 

@@ -28,7 +28,7 @@ def test_a_refused_password_is_named_by_its_line(name: bytes, word: bytes, reaso
 
 
 @pytest.mark.parametrize(
-    ("line", "is_left_out"),
+    ("line", "does_windows_drop_it"),
     [
         pytest.param(BOM + b"ann:password", True, id="a mark before a name"),
         pytest.param(BOM + b"password", True, id="a mark before a lone password"),
