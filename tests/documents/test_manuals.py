@@ -132,6 +132,11 @@ def test_the_manual_of_pwhash_has_the_options_of_each_help(words: list[str]) -> 
 # ---- Methods
 
 
+def title_of(method: Method) -> str:
+    """Returns the name of a method, for the names of tests."""
+    return method.name
+
+
 def row_of(method: Method) -> re.Match[str] | None:
     """Returns a method's row in the table of mkpasswd's manual. It may include a short name."""
     prefix = re.escape(method.prefix.decode())
@@ -141,7 +146,7 @@ def row_of(method: Method) -> re.Match[str] | None:
 
 
 @pytest.mark.needs("mandoc")
-@pytest.mark.parametrize("method", METHODS, ids=lambda method: str(method.name))
+@pytest.mark.parametrize("method", METHODS, ids=title_of)
 def test_the_manual_has_the_prefix_and_the_salts_of_a_method(method: Method) -> None:
     expected = f"{method.prefix.decode()}, 1 to {method.longest_salt}, {method.drawn_salt}"
     assert row_of(method), f"{name_of(MKPASSWD)}: expected: {method.name} with {expected}"
