@@ -377,6 +377,8 @@ struct kind {
     bool has_report, takes_nulls;
 };
 
+/* Each with the function that makes the call, and whether it fills a report and accepts null
+ * pointers. */
 static const struct kind kinds[] = {
     {"login", login, true, true},
     {"login_bytes", login_bytes, true, false},

@@ -65,12 +65,12 @@ class Linking:
 
 
 LINKINGS = (
-    Linking("with the static library", False, ("-O2", *COUNTS_STATIC)),
-    Linking("with the shared library", True, ("-O0", *COUNTS_SHARED)),
+    Linking("with the static library", is_shared=False, words=("-O2", *COUNTS_STATIC)),
+    Linking("with the shared library", is_shared=True, words=("-O0", *COUNTS_SHARED)),
     Linking(
         "with sanitizers",
-        False,
-        ("-g", "-O1", "-DSANITIZED", *SANITIZERS, *COUNTS_STATIC),
+        is_shared=False,
+        words=("-g", "-O1", "-DSANITIZED", *SANITIZERS, *COUNTS_STATIC),
     ),
 )
 

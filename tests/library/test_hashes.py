@@ -27,7 +27,7 @@ from support.model.work import cost
 from support.policies import POLICIES
 from support.stored_fields import KNOWN_HASHES, LONGEST_PASSWORD, SCRYPT_WITH_LONGEST_SALT
 
-CHEAP = 500_000  # a cost below which a test can afford to hash many times
+CHEAP = 500_000  # a cost below which a test makes a hash many times
 # Lengths at which a new block of a digest, or a new byte of the encoded length, begins.
 LENGTHS = (
     0,
@@ -103,7 +103,7 @@ class Hashed:
 
     @property
     def is_cheap(self) -> bool:
-        """Whether a test can afford to hash it many times."""
+        """Whether a test can afford to make this hash many times."""
         return cost(read_setting(self.text), len(self.password)) < CHEAP
 
 

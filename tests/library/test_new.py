@@ -38,7 +38,7 @@ SYSTEMS = pytest.mark.parametrize(
 VALID = [policy for policy in POLICIES if policy not in CLAMPED]
 PASSWORD = b"password"
 PASSWORDS = (PASSWORD, b"a" * (LONGEST_PASSWORD + 1), b"pass\0")
-EXPENSIVE = 10_000_000  # a cost of hashes of which a test can afford only some
+EXPENSIVE = 10_000_000  # a cost above which a test makes only a few hashes
 
 
 def cost_by(policy: Policy) -> int:

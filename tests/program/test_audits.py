@@ -157,7 +157,8 @@ BY_THE_LIMIT_OF_A_LOGIN = [
         ("-R", 422663),
     ),
 ]
-# The last character of a hash encodes two or four bits.
+# The last character of a hash encodes only two or four bits of the digest. So several characters
+# stand for the same digest, and others for none.
 BY_THE_LAST_CHARACTER = [
     Audit("sha512crypt with the last 1", SHA512[:-1] + b"1", f"{OF_SHA512}:current"),
     Audit("sha512crypt with the last 2", SHA512[:-1] + b"2", f"{OF_SHA512}:dead"),

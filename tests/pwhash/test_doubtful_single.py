@@ -24,8 +24,8 @@ SET = ("set", *MD5CRYPT, "passwords", "ann")
 BEFORE = b"ann:x\n"
 LONGEST_OF_CRYPT = 511  # bytes: libxcrypt's CRYPT_MAX_PASSPHRASE_SIZE without the zero byte
 YESCRYPT = b"$y$j9T$abcdefghijklmnopqrstu.$abc"
-SHOWN = 20  # lines of each kind, by a run that stops
-MANY = 30  # more lines than that
+SHOWN = 20  # how many lines of each kind a run that stops shows
+MANY = 30  # more lines than SHOWN
 # Each contains "secret", which no message may show.
 TYPED = [
     pytest.param(b"secret ", b"blank", id="a trailing blank"),

@@ -18,7 +18,7 @@ WORDS = ("file", "--generate", *FAST, "-o", "hashes")
 BY_CLASS = (*WORDS, "--csv", "--passwords", "lists", "--by", "class")
 # Matches a password: letters and digits other than 0, O, 1, l and I, with a letter at both ends.
 LETTERS = re.compile(rb"[A-HJ-NP-Za-km-z][A-HJ-NP-Za-km-z2-9]*[A-HJ-NP-Za-km-z]")
-CHARACTERS = 57  # that passwords have
+CHARACTERS = 57  # different letters and digits that a password may have
 
 
 def rows_of(path: str, separator: str = ",") -> dict[bytes, bytes]:

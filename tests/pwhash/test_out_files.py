@@ -65,7 +65,7 @@ def test_an_out_that_appears_during_a_check_stays() -> None:
     assert read("hashes.part").count(b"\n") == SLOW_COUNT and b"hashes.part" in done.err, done
 
 
-NOT_MOUNTED = 77  # the script's status
+NOT_MOUNTED = 77  # the script's status if it can't mount the image
 
 
 @pytest.mark.needs("mkfs.vfat")

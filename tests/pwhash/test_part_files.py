@@ -139,7 +139,7 @@ def test_another_users_file_is_not_mistaken_for_out() -> None:
 
 @pytest.mark.needs("strace")
 def test_a_part_that_another_run_made_out_is_left_alone() -> None:
-    """Another run may end before this one locks the part. strace stops this run until then."""
+    """Another run may end before this one locks the part. strace stops this run before that."""
     save("list", b"ann:password\n")
     os.utime("list", (1e9, 1e9))  # the list must be older than the part
     save_part("hashes.part", b"ann:" + MD5.encode() + b"\n")

@@ -259,7 +259,7 @@ def test_ignored_lines_are_reported() -> None:
 
 
 def assert_refused(done: Ended, reason: bytes) -> None:
-    """Fails unless the run gave neither answer but this reason, and showed no secret."""
+    """Fails unless the run said neither yes nor no, gave this reason, and showed no secret."""
     assert done.status in (2, 3) and done.out == b"" and reason in done.err, done
     assert SECRET not in done.err and MD5_DIGEST not in done.err, done
 
