@@ -73,7 +73,7 @@ def fixture_surroundings(
 
 
 def in_shell(start: Start, name: str, *needed: str) -> object:
-    """Returns a shell as a parameter. Its tests are skipped if something that it needs is missing."""
+    """Returns a shell as a parameter. Its tests are skipped if something is missing."""
     return pytest.param(start, id=name, marks=pytest.mark.needs("python3-pexpect", *needed))
 
 
