@@ -118,8 +118,8 @@ BY_BUDGETS = [
     ),
 ]
 # Without --budget, even checking the empty password must stay within the limit of a login. It costs
-# 268460964 with the first hash here. With the second hash it costs 163609376, which is the limit
-# for 422664 rounds.
+# 268460964 with SCRYPT_EXPENSIVE, and 163609376 with SCRYPT_AT_LIMIT, which is the limit for 422664
+# rounds.
 BY_THE_LIMIT_OF_A_LOGIN = [
     Audit(
         "expensive scrypt by the default policy",

@@ -406,6 +406,7 @@ def test_lines_are_answered(program: Path, words: Words, given: bytes, answers: 
 @pytest.mark.parametrize(
     ("words", "given"),
     [
+        # Each budget is one less than what the line can cost.
         pytest.param(
             ["--check", "--budget", 89523813983],
             b"h:$6$rounds=999999999$saltstringsaltst$:password",

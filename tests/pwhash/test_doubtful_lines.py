@@ -95,15 +95,15 @@ def test_a_password_that_resembles_a_hash_is_hashed(password: bytes) -> None:
 # ---- Several at once
 
 LINES = [
-    b"name:x",
+    b"name:x",  # a heading
     b"ann:password",
-    b"bob:",
+    b"bob:",  # no password
     b"carl:x\r",
     b" dan:x",
     b"eva:x ",
-    b"ann:y",
-    b"fay\xe2\x80\x8b:x",
-    b"gil:x\xc2\xa0",
+    b"ann:y",  # a repeated name
+    b"fay\xe2\x80\x8b:x",  # a zero-width space
+    b"gil:x\xc2\xa0",  # a no-break space
 ]
 LIST = b"\n".join(LINES) + b"\n"
 DOUBTFUL = [1, 3, 4, 5, 6, 7, 8, 9]  # the numbers of all lines but ann:password
