@@ -2,13 +2,23 @@
 from __future__ import annotations
 
 import pytest
-from support.pwhash_runs import ANN, BOB, BY_NUMBER, MD5, MD5CRYPT, lines_named_in, pwhash, save
+from support.pwhash_runs import (
+    ANN,
+    BOB,
+    BOM,
+    BY_NUMBER,
+    MD5,
+    MD5CRYPT,
+    lines_named_in,
+    pwhash,
+    save,
+)
 
 
 @pytest.mark.parametrize(
     ("columns", "heading"),
     [
-        pytest.param("identità,parola", "Identità,Parola", id="a letter whose bytes end in A0"),
+        pytest.param("identità,parola", "Identità,Parola", id="a letter whose last byte is A0"),
         pytest.param("IDENTITÀ,PAROLA", "identità,parola", id="in capitals"),
         pytest.param("имя,пароль", "Имя,ПАРОЛЬ", id="Cyrillic"),
         pytest.param("straße,x", "STRASSE,x", id="folded"),
@@ -33,26 +43,40 @@ def test_one_column_is_not_both_name_and_password(columns: str) -> None:
     assert (done.status, done.out) == (2, b"") and b"--columns" in done.err, done
 
 
-def test_an_ambiguous_separator_is_not_guessed() -> None:
-    for row in b"smith,j;pw1\n", b"smith\tj,pw1\n", b"\nann;pa,ss\n":
-        done = pwhash("file", "--csv", *MD5CRYPT, *BY_NUMBER, stdin=row)
-        assert (done.status, done.out) == (2, b"") and b"between columns" in done.err, done
+@pytest.mark.parametrize(
+    "row",
+    [
+        pytest.param(b"smith,j;pw1\n", id="a comma and a semicolon"),
+        pytest.param(b"smith\tj,pw1\n", id="a tab and a comma"),
+        pytest.param(b"\nann;pa,ss\n", id="after a blank line"),
+    ],
+)
+def test_an_ambiguous_separator_is_not_guessed(row: bytes) -> None:
+    done = pwhash("file", "--csv", *MD5CRYPT, *BY_NUMBER, stdin=row)
+    assert (done.status, done.out) == (2, b"") and b"between columns" in done.err, done
+
+
+def test_the_separator_follows_from_a_quoted_field() -> None:
     done = pwhash("file", "--csv", *MD5CRYPT, *BY_NUMBER, stdin=b'"ann";pw1\nbob;pw2\n')
     assert (done.status, done.out) == (0, ANN + BOB), done
 
 
-def test_the_separator_is_the_one_between_name_and_password() -> None:
-    for heading in b"last,first;name;password", b"last;first\tname\tpassword":
-        between = heading[-9:-8]
-        row = between.join([b"x", b"ann", b"pw1"])
-        done = pwhash("file", "--csv", *MD5CRYPT, stdin=heading + b"\n" + row + b"\n")
-        assert (done.status, done.out) == (0, ANN), done
+@pytest.mark.parametrize(
+    "table",
+    [
+        pytest.param(b"last,first;name;password\nx;ann;pw1\n", id="a semicolon"),
+        pytest.param(b"last;first\tname\tpassword\nx\tann\tpw1\n", id="a tab"),
+    ],
+)
+def test_the_separator_is_the_one_between_name_and_password(table: bytes) -> None:
+    done = pwhash("file", "--csv", *MD5CRYPT, stdin=table)
+    assert (done.status, done.out) == (0, ANN), done
 
 
 # ---- Tables as programs write them
 
 BOTH = b"".join(name + b":" + MD5.encode() + b"\n" for name in (b"ann", b"bob"))
-EXCEL = b'\xef\xbb\xbfRoom;Password;Name\r\n1;"password";ann\r\n\r\n2;password;bob\r\n'
+EXCEL = BOM + b'Room;Password;Name\r\n1;"password";ann\r\n\r\n2;password;bob\r\n'
 TABS = b'"a,b"\tname\tpassword\nx,y;z\tann\tpassword\n\tbob\tpassword\n'
 SPANISH = "Usuario,Contraseña\nann,password\nbob,password\n".encode()
 

@@ -51,9 +51,11 @@ def test_a_file_with_refused_or_doubtful_lines_is_not_hashed() -> None:
 def test_each_refused_or_doubtful_line_is_named_with_its_reason(
     number: int, name: str, reason: str
 ) -> None:
-    said = looked_at().err.decode().split("\n")
-    is_named = any(f"line {number}" in line and name in line and reason in line for line in said)
-    assert is_named, said
+    messages = looked_at().err.decode().split("\n")
+    is_named = any(
+        f"line {number}" in line and name in line and reason in line for line in messages
+    )
+    assert is_named, messages
 
 
 def test_20_lines_with_the_same_problem_are_named() -> None:
