@@ -68,8 +68,10 @@ def fixture_messages(tmp_path_factory: pytest.TempPathFactory) -> dict[str, str]
     with (folder / "vault.yml").open("w", encoding="ascii") as file:
         for name, value in ("vaulted", "password"), ("vaulted_hash", MD5):
             command = ("/usr/bin/ansible-vault", "encrypt_string", *key, "--name", name, value)
-            vault = run(*command, env=environment, cwd=folder).required().stdout.decode()
-            file.write(vault[vault.index(f"{name}:") :].partition("\nEncryption")[0] + "\n")
+            printed = run(*command, env=environment, cwd=folder).required().stdout.decode()
+            # ansible-vault may print messages before and after the variable.
+            variable = printed[printed.index(f"{name}:") :].partition("\nEncryption")[0]
+            file.write(f"{variable}\n")
     (folder / "filter_plugins").mkdir()
     (folder / "filter_plugins/mkpasswd.py").write_text(recipe("Ansible"), encoding="ascii")
     play = {
@@ -78,13 +80,14 @@ def fixture_messages(tmp_path_factory: pytest.TempPathFactory) -> dict[str, str]
         "vars": {"stored": MD5, "fresh": LONGEST, "fresh_hash": mkpasswd.hash(LONGEST)},
         "vars_files": ["vault.yml"],
         "tasks": [
-            {"name": name, "debug": {"msg": words}, "ignore_errors": True}
-            for name, words in TASKS.items()
+            {"name": name, "debug": {"msg": message}, "ignore_errors": True}
+            for name, message in TASKS.items()
         ],
     }
     (folder / "play.yml").write_text(json.dumps([play]), encoding="ascii")
     words = ("-i", "localhost,", "-c", "local", *key, "play.yml")
     result = run("/usr/bin/ansible-playbook", *words, env=environment, cwd=folder).required()
+    # A task's heading, and the first JSON string after it: its message, or that of its error.
     pattern = r'^TASK \[(\w+)\] \*+\n.*?"msg": ("(?:[^"\\]|\\.)*")'
     found = re.findall(pattern, result.stdout.decode(), re.MULTILINE | re.DOTALL)
     return {name: json.loads(message) for name, message in found}
@@ -122,7 +125,7 @@ def test_the_condition_of_the_recipe_skips_locked_accounts(
 
 
 @pytest.mark.parametrize(
-    ("task", "password", "front"),
+    ("task", "password", "beginning"),
     [
         pytest.param("new", "pässword", "$6$rounds=6000$", id="a new password"),
         pytest.param("renewed", "password", "$6$rounds=656000$", id="an outdated hash"),
@@ -132,10 +135,10 @@ def test_the_condition_of_the_recipe_skips_locked_accounts(
     ],
 )
 def test_a_new_hash_is_made_for(
-    messages: dict[str, str], task: str, password: str, front: str
+    messages: dict[str, str], task: str, password: str, beginning: str
 ) -> None:
     stored = messages[task]
-    assert stored.startswith(front) and mkpasswd.login(password, field=stored)
+    assert stored.startswith(beginning) and mkpasswd.login(password, field=stored)
 
 
 @pytest.mark.parametrize("task", ["longest", "longest_kept"])

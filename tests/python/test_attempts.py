@@ -103,10 +103,11 @@ def test_an_attempt_that_is_forgotten_does_not_count(
 
 def test_attempts_count_for_an_hour(names: dict[str, Any], database: sqlite3.Connection) -> None:
     assert attempts(names, database, "ann", *[HOME] * 11) == [True] * 10 + [False]
-    database.execute("UPDATE attempts SET time = time - 3500")
+    for_most_of_an_hour, for_the_rest = 3500, 101
+    database.execute("UPDATE attempts SET time = time - ?", (for_most_of_an_hour,))
     database.commit()
     assert attempts(names, database, "ann", HOME) == [False]
-    database.execute("UPDATE attempts SET time = time - 101")
+    database.execute("UPDATE attempts SET time = time - ?", (for_the_rest,))
     database.commit()
     assert attempts(names, database, "ann", HOME) == [True]
     assert database.execute("SELECT count(*) FROM attempts").fetchone() == (1,)

@@ -70,16 +70,14 @@ def test_the_methods_have_the_same_order(theirs: Any) -> None:
 def test_a_salt_of_sha_crypt_has_the_same_form(theirs: Any, name: str, rounds: int) -> None:
     setting = crypt.mksalt(getattr(crypt, f"METHOD_{name}"), rounds=rounds)
     expected = theirs.mksalt(getattr(theirs, f"METHOD_{name}"), rounds=rounds)
-    assert setting.rpartition("$")[0] == expected.rpartition("$")[0] and len(setting) == len(
-        expected
-    )
+    assert setting.rpartition("$")[0] == expected.rpartition("$")[0]
+    assert len(setting) == len(expected)
 
 
 def test_a_salt_of_md5crypt_has_the_same_form(theirs: Any) -> None:
     setting, expected = crypt.mksalt(crypt.METHOD_MD5), theirs.mksalt(theirs.METHOD_MD5)
-    assert setting.rpartition("$")[0] == expected.rpartition("$")[0] and len(setting) == len(
-        expected
-    )
+    assert setting.rpartition("$")[0] == expected.rpartition("$")[0]
+    assert len(setting) == len(expected)
 
 
 @SHA_NAMES
@@ -113,8 +111,9 @@ def test_the_same_rounds_are_refused(theirs: Any, name: str, rounds: object) -> 
 
 def test_the_first_method_is_the_default(theirs: Any) -> None:
     """Our default has the recommended rounds; theirs has none."""
-    assert crypt.crypt("x")[:17] == crypt.mksalt()[:17] == "$6$rounds=656000$"
-    assert theirs.mksalt()[:3] == "$6$"
+    assert crypt.crypt("x").startswith("$6$rounds=656000$")
+    assert crypt.mksalt().startswith("$6$rounds=656000$")
+    assert theirs.mksalt().startswith("$6$")
 
 
 # ---- Hashes
@@ -197,7 +196,9 @@ def test_passwords_above_511_bytes_are_hashed(theirs: Any) -> None:
 
 @pytest.mark.parametrize("salt", ["$2b$04$abcdefghijklmnopqrstuu", "$y$j75$abcdefgh", "ab"])
 def test_other_schemes_are_refused(theirs: Any, salt: str) -> None:
-    assert crypt.crypt("x", salt) == "*0" and len(theirs.crypt("x", salt)) > 12
+    length_of_descrypt = 13  # its hashes are the shortest
+    assert crypt.crypt("x", salt) == "*0"
+    assert len(theirs.crypt("x", salt)) >= length_of_descrypt
 
 
 def test_a_zero_byte_in_a_salt_is_refused() -> None:

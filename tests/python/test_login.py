@@ -28,22 +28,23 @@ LOGINS = [
     pytest.param("$6$rounds=3000$salt", Policy(), "$6$rounds=656000$", id="fewer than recommended"),
     pytest.param("$7$BU..../....salt", Policy("scrypt"), "$7$CU", id="a lower scrypt cost"),
 ]
+# The same without the last column.
 STORED = pytest.mark.parametrize(
     ("setting", "policy"), [pytest.param(*row.values[:2], id=row.id) for row in LOGINS]
 )
 
 
-@pytest.mark.parametrize(("setting", "policy", "front"), LOGINS)
+@pytest.mark.parametrize(("setting", "policy", "beginning"), LOGINS)
 @pytest.mark.parametrize("form", [str, str.encode], ids=["str", "bytes"])
 def test_the_right_password_is_accepted_and_an_outdated_hash_renewed(
-    setting: str, policy: Policy, front: str | None, form: Any
+    setting: str, policy: Policy, beginning: str | None, form: Any
 ) -> None:
     stored = crypt("pässword", setting)
     assert policy.login("pässword", field=form(stored)) is True
-    assert policy.needs_rehash(form(stored)) is (front is not None)
-    if front is not None:
+    assert policy.needs_rehash(form(stored)) is (beginning is not None)
+    if beginning is not None:
         new = policy.hash("pässword")
-        assert new.startswith(front) and new == crypt("pässword", new)
+        assert new.startswith(beginning) and new == crypt("pässword", new)
         assert policy.login("pässword", field=new) is True and not policy.needs_rehash(new)
 
 
@@ -125,7 +126,7 @@ def test_a_hash_that_costs_up_to_the_budget_matches_by_a_policy_that_costs_as_mu
 
 
 def test_a_login_succeeds_even_if_a_new_hash_would_cost_too_much() -> None:
-    policy, password = Policy(budget=150_000_000), "x" * 83
+    policy, password = Policy(budget=150_000_000), "x" * 83  # one byte too long for a new hash
     assert policy.login(password, field=crypt(password, "$1$salt")) is True
     assert class_raised(policy.hash, password) is mkpasswd.TooCostly
 

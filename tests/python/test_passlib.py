@@ -25,7 +25,7 @@ pytestmark = [
     pytest.mark.filterwarnings("ignore::DeprecationWarning"),
 ]
 
-FRONT = "$6$rounds=656000$"
+RECOMMENDED = "$6$rounds=656000$"
 # A hash that costs more than the budgets of the recipes.
 BEYOND = "$6$rounds=20000000$saltstring$" + "x" * 86
 # These passwords can't be hashed. passlib itself has a limit of 4,096 characters.
@@ -108,7 +108,7 @@ def test_a_login_by_passlib_accepts_the_right_password_and_renews_the_hash(
     assert field_of_ann(database) == MD5
     assert log_in(service, database, "ann", "password") is True
     stored = field_of_ann(database)
-    assert stored.startswith(FRONT) and stored == crypt("password", stored)
+    assert stored.startswith(RECOMMENDED) and stored == crypt("password", stored)
     assert log_in(service, database, "ann", "password") is True
     assert field_of_ann(database) == stored
 
@@ -135,7 +135,7 @@ def test_a_login_by_passlib_refuses_an_unknown_name(
     [
         pytest.param("!" + MD5, False, id="a lock"),
         pytest.param(crypt("another one", "$1$salt"), False, id="another password"),
-        pytest.param(crypt("password", f"{FRONT}salt"), True, id="the same password"),
+        pytest.param(crypt("password", f"{RECOMMENDED}salt"), True, id="the same password"),
     ],
 )
 def test_a_login_by_passlib_answers_by_what_is_stored_when_it_ends(
@@ -159,7 +159,7 @@ def test_a_login_by_passlib_answers_by_what_is_stored_when_it_ends(
 
 
 def test_a_new_hash_is_libxcrypts_with_the_recommended_rounds(stored: str) -> None:
-    assert stored.startswith(FRONT) and stored == crypt("pässword", stored)
+    assert stored.startswith(RECOMMENDED) and stored == crypt("pässword", stored)
 
 
 def test_only_the_right_password_is_accepted(context: Any, stored: str) -> None:
@@ -172,7 +172,7 @@ def test_a_current_hash_is_kept(context: Any, stored: str) -> None:
 
 def test_an_outdated_hash_is_renewed(context: Any) -> None:
     matches, new = context.verify_and_update("password", MD5)
-    assert matches and new.startswith(FRONT) and new == crypt("password", new)
+    assert matches and new.startswith(RECOMMENDED) and new == crypt("password", new)
 
 
 def test_a_wrong_password_renews_nothing(context: Any) -> None:
@@ -219,7 +219,9 @@ OTHERS = pytest.mark.parametrize(
     [
         pytest.param("pbkdf2_sha256", 1000, id="pbkdf2_sha256"),
         pytest.param("bcrypt", 4, id="bcrypt", marks=pytest.mark.needs("python3-bcrypt")),
-        pytest.param("bcrypt_sha256", 4, id="bcrypt", marks=pytest.mark.needs("python3-bcrypt")),
+        pytest.param(
+            "bcrypt_sha256", 4, id="bcrypt_sha256", marks=pytest.mark.needs("python3-bcrypt")
+        ),
     ],
 )
 
@@ -334,7 +336,7 @@ def test_a_hash_of_a_handler_is_current_by_the_policy_too(ours: Any, name: str) 
 
 def test_few_rounds_are_renewed(ours: Any) -> None:
     _, new = context_of(ours.sha512_crypt).verify_and_update("Hello world!", SHA512)
-    assert new.startswith(FRONT)
+    assert new.startswith(RECOMMENDED)
 
 
 def test_given_rounds_are_the_minimum(ours: Any) -> None:
