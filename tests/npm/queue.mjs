@@ -22,7 +22,7 @@ async function until(test) {
 
 // ---- The clock
 
-const clock = { now: 0, timers: [] };
+const clock = { now: 0, timers: [] }; // in milliseconds
 performance.now = () => clock.now;
 globalThis.setTimeout = (call, milliseconds) => {
     clock.timers.push({ moment: clock.now + milliseconds, call });
@@ -100,23 +100,32 @@ async function full() {
     return { refused, later: await login('password', later) };
 }
 
-const OPTIONS = [
-    5,
-    null,
-    [],
-    new Map(),
-    { failuretime: 5 },
-    { failureTime: '5' },
-    { failureTime: -1 },
-    { size: 0 },
-    { size: Infinity },
-    { policy: {} },
-];
+const OPTIONS = {
+    'a number': 5,
+    'null': null,
+    'a list': [],
+    'a map': new Map(),
+    'another key': { failuretime: 5 },
+    'a string as time': { failureTime: '5' },
+    'a time below 0': { failureTime: -1 },
+    'a size of 0': { size: 0 },
+    'an infinite size': { size: Infinity },
+    'another object as policy': { policy: {} },
+};
+
+// Reports, by title, what a queue with these options gives.
+async function refusedOptions() {
+    const outcomes = {};
+    for (const [title, options] of Object.entries(OPTIONS)) {
+        outcomes[title] = await outcomeOf(() => new LoginQueue(options));
+    }
+    return outcomes;
+}
 
 console.log(JSON.stringify({
     failures: await timesOfFailures(),
     late: await timesOfLateFailures(),
     beside: await besideFailures(),
     full: await full(),
-    options: await Promise.all(OPTIONS.map((given) => outcomeOf(() => new LoginQueue(given)))),
+    options: await refusedOptions(),
 }));

@@ -28,7 +28,8 @@ const watched = {
 
 // Returns an array of zeros that is shared with a worker.
 function newCounts() {
-    return new Int32Array(new SharedArrayBuffer(3 * Int32Array.BYTES_PER_ELEMENT));
+    const counts = 3; // instances, pages and unwiped memories
+    return new Int32Array(new SharedArrayBuffer(counts * Int32Array.BYTES_PER_ELEMENT));
 }
 
 threads.Worker = class extends threads.Worker {
