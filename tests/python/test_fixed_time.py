@@ -28,7 +28,7 @@ QUICK = Policy(rounds=1000)
 LONGEST_WAIT = 60  # seconds to wait for what should come at once
 SECONDS = 0.3  # until a failure is answered
 IN_TIME = 0.005  # seconds after its moment, at which an answer still counts as in time
-IN_TIME_AFTER_SLEEP = 0.01  # the same if a login sleeps, which can end late too
+IN_TIME_AFTER_SLEEP = 0.01  # for a login that sleeps, since a sleep can end late too
 
 
 def raise_an_error() -> NoReturn:

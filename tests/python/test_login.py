@@ -28,7 +28,7 @@ LOGINS = [
     pytest.param("$6$rounds=3000$salt", Policy(), "$6$rounds=656000$", id="fewer than recommended"),
     pytest.param("$7$BU..../....salt", Policy("scrypt"), "$7$CU", id="a lower scrypt cost"),
 ]
-# The same without the last column.
+# The first two columns of LOGINS.
 STORED = pytest.mark.parametrize(
     ("setting", "policy"), [pytest.param(*row.values[:2], id=row.id) for row in LOGINS]
 )

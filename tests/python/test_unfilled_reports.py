@@ -1,4 +1,4 @@
-"""A report that no call has filled: it is all zeros, refuses every login, and is no answer."""
+"""A report of zeros, which no call has filled: it refuses every login, and other calls fail."""
 from __future__ import annotations
 
 import importlib

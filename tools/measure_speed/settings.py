@@ -43,7 +43,7 @@ class Workload:
 
     @property
     def without_hashes(self) -> Workload:
-        """The same without any hash: a program that gets this workload only starts and ends."""
+        """This workload without any hash: a program that gets it only starts and ends."""
         return replace(self, hashes=0)
 
     @property
