@@ -66,15 +66,17 @@ async function timesOfFailures() {
     return { early, count: moments.length, moments: different(moments) };
 }
 
-// Reports when failures are answered whose hashing ends at 250 ms, two and a half times their time.
+// Reports when failures are answered whose hashing takes two and a half times their failureTime.
 async function timesOfLateFailures() {
+    const failureTime = 100;
+    const nextMultiple = 3 * failureTime;
     clock.now = 0;
     const logins = Array(15).fill(['wrong', stored]);
-    const queue = new LoginQueue({ policy, failureTime: 100 });
-    const moments = await failing(queue, logins, () => { clock.now = 250; });
-    await advance(299);
+    const queue = new LoginQueue({ policy, failureTime });
+    const moments = await failing(queue, logins, () => { clock.now = 2.5 * failureTime; });
+    await advance(nextMultiple - 1);
     const early = moments.length;
-    await advance(300);
+    await advance(nextMultiple);
     return { early, count: moments.length, moments: different(moments) };
 }
 
@@ -88,6 +90,8 @@ async function besideFailures() {
     return { result, waiting };
 }
 
+// Reports which calls a queue for two calls refuses while both places are taken, and the result of a
+// login once one call is answered and the other, a failure, only waits for its time.
 async function full() {
     const { login, hash } = new LoginQueue({ policy, failureTime: 100_000, size: 2 });
     const first = [login('wrong', stored), login(password, stored)];

@@ -17,6 +17,8 @@ with package_under_test():
     from mkpasswd import _calls, _library, _loaded, _policy, crypt
 
 HEADER = (ROOT / "c/mkpasswd.h").read_text(encoding="ascii")
+# The size of struct mkpasswd_report: eight numbers of 32 bits and six of 64.
+BYTES_OF_REPORT = 8 * 4 + 6 * 8
 
 
 # ---- The header's numbers
@@ -57,7 +59,8 @@ def test_the_fields_of_a_report_are_the_headers() -> None:
     assert found
     names = re.findall(r"^    (?:\w+_t|struct \w+) (\w+);", found[1], re.MULTILINE)
     fields: list[tuple[str, object]] = getattr(_library.Report, "_fields_")
-    assert [name for name, *_ in fields] == names and ctypes.sizeof(_library.Report) == 80
+    assert [name for name, *_ in fields] == names
+    assert ctypes.sizeof(_library.Report) == BYTES_OF_REPORT
 
 
 def test_the_package_has_the_version_of_the_repository() -> None:

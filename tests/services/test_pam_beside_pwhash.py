@@ -147,7 +147,7 @@ class Visit:
 
 def visit(machine: Namespaces, randoms: random.Random, turn: int) -> list[Result]:
     """Has each user log in and change the password, in random order. Kills some of these runs."""
-    visits = []
+    visits: list[Visit] = []
     for name in USERS + TO_LOCK:
         old, new = passwords_of(name)
         if turn % 2:
@@ -158,7 +158,8 @@ def visit(machine: Namespaces, randoms: random.Random, turn: int) -> list[Result
             visits.append(Visit(name, operation, typed, seconds))
     randoms.shuffle(visits)
     with ThreadPoolExecutor(LOGINS_AT_ONCE) as pool:
-        return list(pool.map(lambda each: each.make(machine), visits))
+        runs = [pool.submit(each.make, machine) for each in visits]
+    return [each.result() for each in runs]
 
 
 @pytest.fixture(scope="module", name="with_file")

@@ -90,7 +90,10 @@ FIELDS_OF_FAILURES = {
     "a hostile hash": "$6$rounds=999999999$s$x",
 }
 IMPOSSIBLE_PASSWORDS = ("x" * 1025, "x\0y", "\ud83d")
-FAILURE_MILLISECONDS = 1000.5  # in queue.mjs, whose clock is set to half a millisecond later
+# Numbers of queue.mjs. Its clock is set to half a millisecond after the time of failures.
+FAILURE_MILLISECONDS = 1000.5
+LATE_FAILURES, LATE_FAILURE_MILLISECONDS = 15, 300
+FAILURES_THAT_WAIT = 100
 
 
 @pytest.fixture(scope="module")
@@ -117,12 +120,16 @@ def test_all_kinds_of_failures_are_answered_at_the_same_moment(queue: Report) ->
 
 
 def test_failure_that_takes_too_long_is_answered_at_a_multiple_of_its_time(queue: Report) -> None:
-    assert queue["late"] == {"early": 0, "count": 15, "moments": [300]}
+    assert queue["late"] == {
+        "early": 0,
+        "count": LATE_FAILURES,
+        "moments": [LATE_FAILURE_MILLISECONDS],
+    }
 
 
 def test_login_is_answered_while_failures_wait(queue: Report) -> None:
     """If failures kept their workers while they wait, no worker would be left for it."""
-    assert queue["beside"] == {"result": {"matches": True}, "waiting": 100}
+    assert queue["beside"] == {"result": {"matches": True}, "waiting": FAILURES_THAT_WAIT}
 
 
 def test_full_queue_is_busy(queue: Report) -> None:
