@@ -59,7 +59,8 @@ def test_threads_get_their_own_answers() -> None:
 LIMIT = """
 import resource, mkpasswd
 from mkpasswd import crypt
-used = int(open("/proc/self/statm").read().split()[0]) * resource.getpagesize()
+pages, *_ = open("/proc/self/statm").read().split()
+used = int(pages) * resource.getpagesize()
 limit = used + (32 << 20)
 resource.setrlimit(resource.RLIMIT_AS, (limit, limit))
 policy = mkpasswd.Policy("scrypt")

@@ -55,10 +55,15 @@ def lines_of(result: Result) -> list[str]:
 # ---- Output
 
 
+def subject_of(line: str) -> str:
+    """Returns the beginning of a line, which says what it is about: `must-fail` or a crate."""
+    return re.split("[: ]", line)[0]
+
+
 def test_each_crate_has_a_line_without_a_terminal(tree: ToolTree) -> None:
     tree.rt_prints(PROVED + TRIED)
     result = tree.run("gate").required()
-    subjects = [re.split("[: ]", line)[0] for line in lines_of(result)]
+    subjects = [subject_of(line) for line in lines_of(result)]
     assert subjects == ["prims_core", "kdf_core", "must-fail", "12"], result
     assert result.stdout.endswith(b"\n12 passed, 0 failed\n"), result
 
@@ -78,8 +83,7 @@ def test_each_crate_has_a_line_that_changes_at_a_terminal(tree: ToolTree) -> Non
     # In a line, each text erases the one before it.
     texts_by_line = [line.split(ERASES_LINE) for line in screen.split("\r\n")]
     assert max(len(text) for texts in texts_by_line for text in texts) < COLUMNS, screen
-    lines = [texts[-1] for texts in texts_by_line]
-    subjects = [re.split("[: ]", line)[0] for line in lines]
+    subjects = [subject_of(texts[-1]) for texts in texts_by_line]
     assert subjects == ["prims_core", "kdf_core", "must-fail", "12", ""], screen
     assert "kdf_core: 39 functions proved" in screen, screen
 
@@ -382,9 +386,10 @@ def shown_times(tree: ToolTree) -> dict[str, dict[str, str]]:
     rows = []
     for line in lines_of(tree.run("gate", "--times").required()):
         if line.startswith("|"):
-            rows.append([cell.strip(" `") for cell in line.split("|")[1:-1]])
-    assert rows[0] == ["Crate", *HEADINGS]
-    return {row[0]: dict(zip(HEADINGS, row[1:])) for row in rows[2:]}
+            rows.append([cell.strip(" `") for cell in line.strip("|").split("|")])
+    headings, _rule, *of_crates = rows
+    assert headings == ["Crate", *HEADINGS]
+    return {crate: dict(zip(HEADINGS, cells)) for crate, *cells in of_crates}
 
 
 def test_the_times_of_a_run_are_shown_by_crate(tree: ToolTree) -> None:

@@ -63,7 +63,8 @@ def fixture_installed(installation: tuple[Path, Result]) -> Path:
 
 
 def test_installing_prints_nothing(installation: tuple[Path, Result]) -> None:
-    assert_result(installation[1])
+    _, result = installation
+    assert_result(result)
 
 
 def mode_of(path: Path) -> int:

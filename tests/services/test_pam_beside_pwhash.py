@@ -165,7 +165,8 @@ def visit(machine: Namespaces, randoms: random.Random, turn: int) -> list[Result
 @pytest.fixture(scope="module", name="with_file")
 def fixture_with_file(with_module: Namespaces) -> Namespaces:
     names = USERS + TO_LOCK + TO_DELETE
-    hashes = [crypt(passwords_of(name)[0], b"$6$rounds=1000$abcdefgh") for name in names]
+    passwords = [password for password, _other in map(passwords_of, names)]
+    hashes = [crypt(password, b"$6$rounds=1000$abcdefgh") for password in passwords]
     lines = [b"%b:%b\n" % (name.encode(), stored) for name, stored in zip(names, hashes)]
     with_module.write(FILE, b"".join(lines), 0o600)
     return with_module

@@ -245,7 +245,8 @@ def beside(watcher: Watcher, administrator: Administrator) -> Iterator[None]:
 def fixture_with_file(with_module: Namespaces) -> Namespaces:
     """A machine with the file. It has no system log, which the test would have to read."""
     names = NAMES + TO_LOCK
-    hashes = [crypt(passwords_of(name)[0], b"$6$rounds=1000$abcdefgh") for name in names]
+    passwords = [password for password, _other in map(passwords_of, names)]
+    hashes = [crypt(password, b"$6$rounds=1000$abcdefgh") for password in passwords]
     lines = [b"%b:%b\n" % (name.encode(), field) for name, field in zip(names, hashes)]
     with_module.write(FILE, b"".join(lines), 0o600)
     return with_module

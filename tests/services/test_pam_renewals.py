@@ -240,7 +240,7 @@ def test_the_next_renewal_puts_back_the_file_that_a_killed_one_took_out(
     assert is_renewed(pam.machine.read(FILE))
     assert pam.login("six", PASSWORD) == Login(Answer.ACCEPTED)
     lines = pam.machine.read(FILE).splitlines(keepends=True)
-    assert (lines[0], is_renewed(lines[1]), len(lines)) == (locked, True, 2), lines
+    assert len(lines) == 2 and lines[0] == locked and is_renewed(lines[1]), lines
     assert others_beside(pam.machine) == []
 
 

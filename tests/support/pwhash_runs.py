@@ -307,7 +307,8 @@ def at_terminal(
     import pexpect
 
     child = pexpect.spawn(
-        *(PWHASH, list(words)),
+        PWHASH,
+        list(words),
         timeout=60,
         echo=True,
         preexec_fn=lambda: erase_whole_characters(utf8),  # later it would undo what pwhash sets
@@ -400,7 +401,8 @@ def state_of(process: int) -> str:
 def resident(process: int) -> int:
     """Returns how many bytes of a process are in memory, or 0 if it has ended."""
     with contextlib.suppress(OSError):
-        pages = pathlib.Path(f"/proc/{process}/statm").read_text(encoding="ascii").split()[1]
+        statm = pathlib.Path(f"/proc/{process}/statm").read_text(encoding="ascii")
+        _size, pages, *_ = statm.split()
         return int(pages) * os.sysconf("SC_PAGE_SIZE")
     return 0
 
