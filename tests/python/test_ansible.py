@@ -7,6 +7,7 @@ import secrets
 
 import pytest
 from support.package import environment_of, recipe, package_under_test
+from support.passwords import LONGEST_BY_DEFAULT, TOO_COSTLY
 from support.process import run
 from support.stored_strings import MD5
 
@@ -43,7 +44,7 @@ TASKS = {
     "number": f"{{{{ 5 | {HASH} }}}}",
     "longest": f"it is {{{{ fresh | {VERIFY}(fresh_hash) }}}}",
     "longest_kept": f"it is {{{{ (fresh | {HASH}(current=fresh_hash)) == fresh_hash }}}}",
-    "too_long": f"{{{{ ('x' * 169) | {HASH} }}}}",
+    "too_long": f"{{{{ '{TOO_COSTLY}' | {HASH} }}}}",
     "hash_within": f"{{{{ 'password' | {HASH}(budget=1) }}}}",
     "verify_within": f"it is {{{{ 'password' | {VERIFY}(stored, budget=1) }}}}",
     "verify_locked": f"it is {{{{ 'password' | {VERIFY}('!' + stored) }}}}",
@@ -51,7 +52,6 @@ TASKS = {
     "verify_malformed": f"{{{{ 'password' | {VERIFY}('$6$rounds=0$x$x') }}}}",
     "verify_password": f"{{{{ 'password' | {VERIFY}('password') }}}}",
 }
-LONGEST = "x" * 168
 
 
 @pytest.fixture(scope="module", name="messages")
@@ -77,7 +77,11 @@ def fixture_messages(tmp_path_factory: pytest.TempPathFactory) -> dict[str, str]
     play = {
         "hosts": "localhost",
         "gather_facts": False,
-        "vars": {"stored": MD5, "fresh": LONGEST, "fresh_hash": mkpasswd.hash(LONGEST)},
+        "vars": {
+            "stored": MD5,
+            "fresh": LONGEST_BY_DEFAULT,
+            "fresh_hash": mkpasswd.hash(LONGEST_BY_DEFAULT),
+        },
         "vars_files": ["vault.yml"],
         "tasks": [
             {"name": name, "debug": {"msg": message}, "ignore_errors": True}

@@ -9,6 +9,7 @@ import pytest
 from support import libxcrypt
 from support.needs import not_applicable
 from support.package import error_of, class_raised, package_under_test
+from support.passwords import LONGEST, LONGEST_BY_DEFAULT, TOO_COSTLY, TOO_LONG
 from support.stored_strings import MD5, SHA256
 
 with package_under_test():
@@ -163,7 +164,7 @@ COSTLY_SETTING = "$6$rounds=656000$saltsaltsaltsalt"
     ("password", "salt", "error"),
     [
         pytest.param("x", "$6$rounds=1000000000$ab", mkpasswd.TooCostly, id="too many rounds"),
-        pytest.param("x" * 1025, MD5, ValueError, id="a password that is too long"),
+        pytest.param(TOO_LONG, MD5, ValueError, id="a password that is too long"),
     ],
 )
 def test_too_high_a_cost_raises_an_error_instead_of_returning_a_token(
@@ -175,12 +176,12 @@ def test_too_high_a_cost_raises_an_error_instead_of_returning_a_token(
 
 
 def test_168_bytes_are_hashed_with_the_recommended_rounds() -> None:
-    expected = libxcrypt.crypt(b"x" * 168, COSTLY_SETTING.encode()).decode()
-    assert crypt.crypt("x" * 168, COSTLY_SETTING) == expected
+    expected = libxcrypt.crypt(LONGEST_BY_DEFAULT.encode(), COSTLY_SETTING.encode()).decode()
+    assert crypt.crypt(LONGEST_BY_DEFAULT, COSTLY_SETTING) == expected
 
 
 def test_169_bytes_cost_too_much_with_the_recommended_rounds() -> None:
-    assert class_raised(crypt.crypt, "x" * 169, COSTLY_SETTING) is mkpasswd.TooCostly
+    assert class_raised(crypt.crypt, TOO_COSTLY, COSTLY_SETTING) is mkpasswd.TooCostly
 
 
 def test_rounds_below_the_minimum_are_clamped(theirs: Any) -> None:
@@ -191,7 +192,7 @@ def test_rounds_below_the_minimum_are_clamped(theirs: Any) -> None:
 def test_passwords_above_511_bytes_are_hashed(theirs: Any) -> None:
     assert theirs.crypt("x" * 512, MD5) == "*0"
     policy = mkpasswd.Policy("md5crypt")
-    assert policy.login("x" * 1024, field=crypt.crypt("x" * 1024, MD5))
+    assert policy.login(LONGEST, field=crypt.crypt(LONGEST, MD5))
 
 
 @pytest.mark.parametrize("salt", ["$2b$04$abcdefghijklmnopqrstuu", "$y$j75$abcdefgh", "ab"])

@@ -14,6 +14,7 @@ from typing import Any, NoReturn
 
 import pytest
 from support.package import crypt, error_of, run_python, package_under_test
+from support.passwords import TOO_LONG
 from support.stored_strings import COSTLY, MD5, SHA512
 
 with package_under_test():
@@ -62,7 +63,7 @@ FAILURES = [
     pytest.param(QUICK.login, "password", MD5[:-1], id="a hash that was cut"),
     pytest.param(Policy("md5crypt").login, "password", COSTLY, id="a costly hash"),
     pytest.param(QUICK.login, "password", "$y$j9T$salt$x", id="another scheme"),
-    pytest.param(QUICK.login, "x" * 1025, MD5, id="a password that is too long"),
+    pytest.param(QUICK.login, TOO_LONG, MD5, id="a password that is too long"),
 ]
 
 

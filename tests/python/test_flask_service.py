@@ -25,6 +25,7 @@ from support.package import (
     package_under_test,
     whole_login_of_a_moving_service,
 )
+from support.passwords import TOO_LONG
 
 with package_under_test():
     from mkpasswd.fixed_time import FixedTime
@@ -158,7 +159,7 @@ def test_a_renewed_hash_matches_only_its_password_and_is_kept(service: Service) 
         pytest.param("nobody", password_of("nobody"), id="an unknown name"),
         pytest.param("", "", id="nothing"),
         pytest.param("current", "", id="no password"),
-        pytest.param("outdated", "x" * 1025, id="too long"),
+        pytest.param("outdated", TOO_LONG, id="too long"),
         pytest.param("bcrypt", password_of("bcrypt") + "\0", id="a zero byte"),
         pytest.param("pbkdf2", password_of("current"), id="another user's"),
     ],

@@ -5,6 +5,7 @@ from typing import Any
 
 import pytest
 from support.package import crypt, class_raised, package_under_test
+from support.passwords import LONGEST, TOO_COSTLY, TOO_LONG
 from support.stored_strings import COSTLY, MD5, NEVER_OPEN, SHA512, title
 
 with package_under_test():
@@ -78,10 +79,10 @@ def test_a_field_without_a_match_returns_false(field: str | None) -> None:
         pytest.param(b"\0", id="a zero byte in bytes"),
         pytest.param("\ud800", id="a lone surrogate"),
         pytest.param(b"\xff", id="no UTF-8"),
-        pytest.param("x" * 1025, id="1025 bytes"),
+        pytest.param(TOO_LONG, id="1025 bytes"),
         pytest.param("\u00e9" * 513, id="1026 bytes of 513 characters"),
         pytest.param("x" * 10**6, id="a million bytes"),
-        pytest.param("x" * 1024, id="1024 bytes"),
+        pytest.param(LONGEST, id="1024 bytes"),
         pytest.param(MD5, id="a hash"),
         pytest.param("!", id="a lock"),
     ],
@@ -173,15 +174,15 @@ def test_a_login_does_the_same_work_for_every_name(works: list[Any], policy: Pol
     [
         pytest.param("x\0", id="a zero byte"),
         pytest.param("\ud800", id="a lone surrogate"),
-        pytest.param("x" * 1025, id="too long"),
-        pytest.param("x" * 169, id="too costly"),
+        pytest.param(TOO_LONG, id="too long"),
+        pytest.param(TOO_COSTLY, id="too costly"),
     ],
 )
 @pytest.mark.parametrize(
     "field",
     [
         pytest.param("$6$rounds=656000$saltsaltsaltsalt$" + "x" * 86, id="a recommended hash"),
-        pytest.param(crypt("x" * 169, "$1$salt"), id="a cheap hash"),
+        pytest.param(crypt(TOO_COSTLY, "$1$salt"), id="a cheap hash"),
         pytest.param(None, id="no hash"),
         pytest.param("!", id="a lock"),
     ],

@@ -15,6 +15,7 @@ from support.package import (
     recipe,
     whole_login,
 )
+from support.passwords import LONGEST_BY_DEFAULT, TOO_COSTLY, TOO_LONG
 from support.stored_strings import MD5, SHA256, SHA512, title
 
 with package_under_test():
@@ -29,7 +30,7 @@ RECOMMENDED = "$6$rounds=656000$"
 # A hash that costs more than the budgets of the recipes.
 BEYOND = "$6$rounds=20000000$saltstring$" + "x" * 86
 # These passwords can't be hashed. passlib itself has a limit of 4,096 characters.
-IMPOSSIBLE = ["x" * 1025, "x" * 5000, "x\0", "\ud800"]
+IMPOSSIBLE = [TOO_LONG, "x" * 5000, "x\0", "\ud800"]
 IMPOSSIBLE_IDS = ["1025 bytes", "5000 bytes", "a zero byte", "a lone surrogate"]
 NAMES = ["md5_crypt", "sha256_crypt", "sha512_crypt"]
 NO_BUDGET = 2**42  # more than any hash costs
@@ -63,7 +64,7 @@ def fixture_stored(context: Any) -> str:
 @pytest.fixture(scope="module", name="of_168")
 def fixture_of_168(context: Any) -> str:
     """A new hash of the longest password."""
-    return str(context.hash("x" * 168))
+    return str(context.hash(LONGEST_BY_DEFAULT))
 
 
 # ---- The recipe
@@ -184,14 +185,14 @@ def test_a_hash_above_the_budget_lets_nobody_in(context: Any) -> None:
 
 
 def test_168_bytes_are_accepted_and_169_are_not(context: Any, of_168: str) -> None:
-    assert context.verify("x" * 168, of_168) and not context.verify("x" * 169, of_168)
+    assert context.verify(LONGEST_BY_DEFAULT, of_168) and not context.verify(TOO_COSTLY, of_168)
 
 
 IMPOSSIBLE_PASSWORDS = [
     pytest.param(word, id=name) for word, name in zip(IMPOSSIBLE, IMPOSSIBLE_IDS)
 ]
 REFUSED = pytest.mark.parametrize(
-    "password", [pytest.param("x" * 169, id="169 bytes"), *IMPOSSIBLE_PASSWORDS]
+    "password", [pytest.param(TOO_COSTLY, id="169 bytes"), *IMPOSSIBLE_PASSWORDS]
 )
 
 
@@ -267,7 +268,7 @@ def test_a_long_password_gets_fewer_rounds(like_recommended: Any) -> None:
 def test_rounds_that_vary_stay_within_the_limit(like_recommended: Any) -> None:
     varied = like_recommended.using(vary_rounds="50%")
     for _ in range(20):
-        assert varied.verify("x" * 168, varied.hash("x" * 168))
+        assert varied.verify(LONGEST_BY_DEFAULT, varied.hash(LONGEST_BY_DEFAULT))
 
 
 def test_a_hash_with_fewer_rounds_is_outdated_unless_its_password_is_long(
@@ -282,9 +283,9 @@ def test_a_hash_with_fewer_rounds_is_outdated_unless_its_password_is_long(
 def test_a_password_that_no_hash_can_have_is_not_renewed(like_recommended: Any) -> None:
     other = importlib.import_module("passlib.hash").pbkdf2_sha256.using(rounds=1000)
     context = context_of(like_recommended, other, deprecated="auto")
-    stored = other.hash("x" * 1025)
-    assert context.verify("x" * 1025, stored)
-    assert class_raised(context.verify_and_update, "x" * 1025, stored) is ValueError
+    stored = other.hash(TOO_LONG)
+    assert context.verify(TOO_LONG, stored)
+    assert class_raised(context.verify_and_update, TOO_LONG, stored) is ValueError
 
 
 # ---- The same work for every name

@@ -7,6 +7,7 @@ from typing import Any
 
 import pytest
 from support.package import crypt, error_of, class_raised, package_under_test
+from support.passwords import LONGEST, LONGEST_BY_DEFAULT, TOO_COSTLY
 from support.stored_strings import COSTLY, DEAD, LOCKED, MD5, REFUSED, SHA512, title
 
 with package_under_test():
@@ -200,19 +201,15 @@ def test_a_login_hashes_up_to_the_limit_and_no_more(policy: Policy) -> None:
 
 # ---- Long passwords
 
-LONGEST_WITHIN_LIMIT = "x" * 168
-TOO_LONG = "x" * 169
-LONGEST = "x" * 1024
-
 
 @pytest.fixture(scope="module", name="of_168")
 def fixture_of_168() -> str:
     """A hash of the longest password, by the recommended policy."""
-    return mkpasswd.hash(LONGEST_WITHIN_LIMIT)
+    return mkpasswd.hash(LONGEST_BY_DEFAULT)
 
 
 def test_168_bytes_match_by_the_recommended_policy(of_168: str) -> None:
-    assert mkpasswd.login(LONGEST_WITHIN_LIMIT, field=of_168) is True
+    assert mkpasswd.login(LONGEST_BY_DEFAULT, field=of_168) is True
 
 
 def test_168_other_bytes_do_not_match(of_168: str) -> None:
@@ -220,7 +217,7 @@ def test_168_other_bytes_do_not_match(of_168: str) -> None:
 
 
 def test_169_bytes_are_refused_by_the_recommended_policy() -> None:
-    error = error_of(mkpasswd.hash, TOO_LONG)
+    error = error_of(mkpasswd.hash, TOO_COSTLY)
     assert error.__class__ is TooCostly
     assert str(error) == "over budget: the hash can cost more than 253921472"
 

@@ -30,6 +30,7 @@ from support.package import (
     whole_login,
     whole_login_of_a_moving_service,
 )
+from support.passwords import TOO_COSTLY, TOO_LONG
 from support.process import run
 from support.stored_strings import COSTLY, MD5, SHA512, title
 
@@ -41,7 +42,7 @@ RECOMMENDED = "$6$rounds=656000$"
 LIMIT = 253_921_472  # of the recommended policy, as docs/FORMATS.md works it out
 # A good hash, an empty field, a locked one, one that costs too much, and NULL.
 USERS = {"ann": MD5, "joe": "", "bob": "!" + MD5, "eve": COSTLY, "kim": None}
-WRONG_PASSWORDS = ["passw0rd", "", "x\0", "\ud800", "x" * 1025, MD5, "!"]
+WRONG_PASSWORDS = ["passw0rd", "", "x\0", "\ud800", TOO_LONG, MD5, "!"]
 ADDRESS = "203.0.113.7"
 
 
@@ -138,7 +139,7 @@ def test_a_new_user_gets_a_hash_that_is_kept(
     assert fields_of(database)["zoe"] == stored
 
 
-@pytest.mark.parametrize("password", ["", "x\0", "x" * 169, "x" * 1025], ids=title)
+@pytest.mark.parametrize("password", ["", "x\0", TOO_COSTLY, TOO_LONG], ids=title)
 def test_a_password_that_cannot_be_used_registers_nobody(
     database: sqlite3.Connection, names: dict[str, Any], password: str
 ) -> None:
@@ -410,7 +411,7 @@ def test_a_wrong_old_password_changes_nothing(
     assert fields_of(database) == USERS
 
 
-@pytest.mark.parametrize("new", ["", "x\0", "x" * 169, "x" * 1025], ids=title)
+@pytest.mark.parametrize("new", ["", "x\0", TOO_COSTLY, TOO_LONG], ids=title)
 def test_a_new_password_that_cannot_be_used_keeps_the_old_one(
     database: sqlite3.Connection, names: dict[str, Any], new: str
 ) -> None:
