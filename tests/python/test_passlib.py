@@ -88,12 +88,13 @@ def fixture_service(cook: Cook) -> dict[str, Any]:
 
 
 def field_of_ann(users: sqlite3.Connection) -> Any:
-    """Returns what is stored for her."""
-    return users.execute("SELECT hash FROM users").fetchone()[0]
+    """Returns the field of the only user."""
+    (field,) = users.execute("SELECT hash FROM users").fetchone()
+    return field
 
 
 def store(users: sqlite3.Connection, field: str) -> None:
-    """Stores another field for her."""
+    """Stores another field for the only user."""
     users.execute("UPDATE users SET hash = ?", (field,))
 
 

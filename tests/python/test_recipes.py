@@ -239,7 +239,7 @@ class Change:
 
     @property
     def field(self) -> str | None:
-        """What is stored for her then."""
+        """What is stored for the user after the change."""
         return self.text if self.password is None else current_hash(self.password, "salt")
 
     def make(self, users: sqlite3.Connection) -> None:

@@ -381,7 +381,7 @@ LONGEST_FAILURE = 2**31 - 1  # milliseconds, about 25 days
 
 
 # What a change of the password answers for bob, who has an old hash, for ann, who has a new one,
-# and for a name that doesn't exist. At the end bob changes his.
+# and for a name that doesn't exist. At the end bob changes his password.
 OLD_CHANGES = """
 async function statusesOfChanges(password, chosen) {
     const statuses = [];

@@ -72,5 +72,5 @@ def scrypt_digest(stored_hash: bytes) -> bytes:
     Each character of the digest stands for six bits, the lowest first.
     """
     digits = stored_hash.rpartition(b"$")[2]
-    size_of_digits = 33  # their 43 * 6 bits are two more than those of 32 bytes
+    size_of_digits = 33  # since 43 digits are 258 bits, two more than 32 bytes have
     return number_of(digits).to_bytes(size_of_digits, "little")[:32]
