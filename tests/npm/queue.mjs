@@ -90,8 +90,8 @@ async function besideFailures() {
     return { result, waiting };
 }
 
-// Reports which calls a queue for two calls refuses while both places are taken, and the result of a
-// login once one call is answered and the other, a failure, only waits for its time.
+// Reports which calls a queue for two calls refuses while both places are taken, and the result of
+// a login once one call is answered and the other, a failure, only waits for its time.
 async function full() {
     const { login, hash } = new LoginQueue({ policy, failureTime: 100_000, size: 2 });
     const first = [login('wrong', stored), login(password, stored)];
