@@ -122,7 +122,8 @@ def test_sha256sum_finds_each_file_as_it_was_packed(archive: Archive) -> None:
 
 def test_each_file_has_a_checksum(archive: Archive) -> None:
     lines = (archive.tree / SUMS).read_text(encoding="utf-8").splitlines()
-    summed = [line[66:] for line in lines if re.match("[0-9a-f]{64}  ", line)]
+    found = [re.fullmatch("[0-9a-f]{64}  (.+)", line) for line in lines]
+    summed = [match[1] for match in found if match]
     files = [name for name in files_below(archive.tree) if not (archive.tree / name).is_symlink()]
     assert sorted(summed) == [name for name in files if name != SUMS]
 
@@ -217,6 +218,7 @@ def test_the_guide_names_the_oldest_glibc_for_the_pam_module(archive: Archive) -
 
 @pytest.mark.needs("objdump")
 def test_the_readme_names_each_function_that_the_static_library_needs(archive: Archive) -> None:
+    # Up to a line that no indented line continues.
     row = r"^  libmkpasswd\.a: +a C library with (.*?)$(?!\n {9})"
     found = re.search(row, archive.readme, re.MULTILINE | re.DOTALL)
     assert found is not None, archive.readme
@@ -231,6 +233,7 @@ def test_each_link_in_the_documents_leads_to_a_file(archive: Archive) -> None:
     dead = []
     documents = list(archive.documents.glob("*.md"))
     for document in documents:
+        # Links to files, without their places: not `](https://..)`, and not `](#builds)`
         links = re.findall(r"\]\((?![a-z]+:)([\w.][^)#]*)", document.read_text(encoding="utf-8"))
         dead += [
             f"{document.name}: {link}" for link in links if not (document.parent / link).exists()

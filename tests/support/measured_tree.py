@@ -172,8 +172,8 @@ class MeasuredTree:
         path = self.fakes / "calls"
         return path.read_text(encoding="utf-8").splitlines() if path.exists() else []
 
-    def kept(self, pattern: str) -> list[str]:
-        """Returns the names of measurements' kept files that match a pattern."""
+    def saved(self, pattern: str) -> list[str]:
+        """Returns the names of the files in build/evidence/COMMIT that match a pattern."""
         return sorted(path.name for path in self.folder.glob(f"build/evidence/*/{pattern}"))
 
     def write(self, path: str, text: str) -> None:

@@ -4,6 +4,7 @@ from __future__ import annotations
 
 import re
 from collections.abc import Callable, Iterable, Iterator, Sequence
+from operator import attrgetter
 
 from measure.facts import Artifacts, Bench, Check, Fuzz, Gate, Plant, Plants, Skip, Soak
 from measure.parts import OTHER_ENVIRONMENT, OTHER_USER, Commit, Part
@@ -252,11 +253,11 @@ def plants(pairs: Sequence[Pair]) -> str:
         "one that isn't fair breaks only what a function that it calls requires.\n\n"
     )
     text += table(("Crate", "Functions", *PLANT_COLUMNS.values()), rows, numbers=True)
-    text += bodies("Proved, so no clause excludes them", found, lambda it: it.proved)
-    text += bodies("Not judged", found, lambda it: it.not_judged)
-    text += functions("Functions without a clause", found, lambda it: it.no_clause)
+    text += bodies("Proved, so no clause excludes them", found, attrgetter("proved"))
+    text += bodies("Not judged", found, attrgetter("not_judged"))
+    text += functions("Functions without a clause", found, attrgetter("no_clause"))
     text += functions(
-        "Functions of which no body that gives up was judged", found, lambda it: it.untested
+        "Functions of which no body that gives up was judged", found, attrgetter("untested")
     )
     return text
 
@@ -284,7 +285,11 @@ def functions(
     title: str, found: dict[str, Plants], names_of: Callable[[Plants], Sequence[str]]
 ) -> str:
     """Returns a list of functions."""
-    lines = [f"- {crate}, {code(name)}\n" for crate, it in found.items() for name in names_of(it)]
+    lines = [
+        f"- {crate}, {code(name)}\n"
+        for crate, of_crate in found.items()
+        for name in names_of(of_crate)
+    ]
     return f"\n{title}:\n\n{''.join(lines)}" if lines else ""
 
 
