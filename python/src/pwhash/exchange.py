@@ -11,10 +11,11 @@ import enum
 import errno
 import os
 import re
-from typing import List, NamedTuple
+import stat
+from typing import ContextManager, List, NamedTuple, Optional
 
 from pwhash import system
-from pwhash.errors import Stop
+from pwhash.errors import Stop, errors_named
 from pwhash.place import Place
 
 # Each exchange after the first is needed only if somebody changed the file between two calls.
@@ -136,21 +137,41 @@ def version(status: os.stat_result) -> "tuple[int, ...]":
 
 def end_earlier_exchange(place: Place) -> None:
     """Ends the exchange of a process that was killed."""
-    try:
-        note = os.readlink(place.note, dir_fd=place.folder)
-    except FileNotFoundError:
-        with contextlib.suppress(FileNotFoundError):  # without a note it was never in place
+    refuse_new_folder(place)
+    pair = read_note(place)
+    if pair is None:  # so the new file was never in place
+        with errors_of_new(place), contextlib.suppress(FileNotFoundError):
             os.unlink(place.new, dir_fd=place.folder)
         return
-    pair = read_note(place, note)
     put_back(place, pair)
-    remove_own_file(place, pair)
-    os.unlink(place.note, dir_fd=place.folder)
+    with errors_of_new(place):
+        remove_own_file(place, pair)
+    with errors_named(f"{place.display_name}.mkpasswd.exchange"):
+        os.unlink(place.note, dir_fd=place.folder)
 
 
-def read_note(place: Place, note: str) -> Pair:
-    """Returns the two inodes in a note."""
-    found = NOTE.fullmatch(note)
+def errors_of_new(place: Place) -> ContextManager[None]:
+    """Turns an error of the system in the block into a Stop that names the new file."""
+    return errors_named(f"{place.display_name}.mkpasswd.new")
+
+
+def refuse_new_folder(place: Place) -> None:
+    """Refuses a folder where the new version of the file has to be."""
+    found = place.status_of(place.new)
+    if found is not None and stat.S_ISDIR(found.st_mode):
+        raise Stop(
+            f"{place.display_name}.mkpasswd.new is a folder, where the new version of the file has "
+            "to be. Look at it, and move or remove it."
+        )
+
+
+def read_note(place: Place) -> Optional[Pair]:
+    """Returns the two inodes in the note, or None if there is no note."""
+    status = place.status_of(place.note)
+    if status is None:
+        return None
+    is_link = stat.S_ISLNK(status.st_mode)
+    found = NOTE.fullmatch(os.readlink(place.note, dir_fd=place.folder)) if is_link else None
     if found is None:
         raise Stop(
             f"{place.display_name}.mkpasswd.exchange isn't a link that pwhash or pam_mkpasswd "
