@@ -142,6 +142,13 @@ PASTED = [
     pytest.param(b"<user_password>FIRSTREST</user_password>", id="a line of AutoYaST"),
     pytest.param(b"userPassword: {CRYPT}FIRSTREST", id="a line of LDIF"),
     pytest.param(b"> > FIRST\n> > REST\n", id="a reply to an e-mail"),
+    pytest.param(b"> On Tue, Bob wrote:\n> > ann:FIRSTREST\n", id="who wrote an e-mail"),
+    pytest.param(
+        b"On Tue, 1 Dec 2026 at 14:18, Bob <bob@example.org> wrote:\r\n> FIRST\r\n> REST",
+        id="when somebody wrote an e-mail",
+    ),
+    pytest.param("Bob a \xe9crit\xa0:\n\n> FIRSTREST".encode(), id="who wrote it, in French"),
+    pytest.param(b"the hash of ann: FIRSTREST", id="words before the hash"),
     pytest.param("\u201cFIRSTREST\u201d".encode(), id="quotes of a word processor"),
     pytest.param(b"HOST$:FIRSTREST:19000::::::", id="the account of a machine"),
 ]
@@ -288,6 +295,9 @@ def test_a_password_that_no_hash_can_have_is_refused(password: bytes, reason: by
         pytest.param(SECRET + b"\n", b"second", id="a password and a line feed"),
         pytest.param(SECRET + b"\nann::" + MD5.encode(), b"empty", id="a line without a hash"),
         pytest.param(SECRET + b"\n(" + MD5.encode() + b")", b"stored as it is", id="brackets"),
+        pytest.param(SECRET + b"\n> On Tue, Bob wrote:\n", b"no hash", id="who wrote an e-mail"),
+        pytest.param(SECRET + b"\nann smith:!:1:", b"locked", id="a name of two words"),
+        pytest.param(SECRET + b"\nann smith:x:", b"stored as it is", id="a field of one letter"),
         # To search this for a hash took more than a minute.
         pytest.param(SECRET + b"\n" + b"!" * 131000, b"4,096 bytes", id="much too many bytes"),
     ],

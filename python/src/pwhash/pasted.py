@@ -69,7 +69,7 @@ def ask_for_both(ask: Ask) -> Pasted:
     password = ask(PASSWORD_PROMPT)
     pasted = b""
     while not pasted:
-        pasted = cleaned(ask(HASH_PROMPT))
+        pasted = without_introduction(ask(HASH_PROMPT))
     rest = pasted
     while rest and is_cut(pasted):
         rest = cleaned(ask(REST_PROMPT))
@@ -84,10 +84,10 @@ def piped_both(console: Console) -> Pasted:
     line = lines.next()
     if line is None:
         raise no_hash_error()
-    pasted = cleaned(line)
+    pasted = without_introduction(line)
     while not pasted and line is not None:  # after blank lines, a hash may take a while to come
         line = lines.next()
-        pasted = cleaned(line or b"")
+        pasted = without_introduction(line or b"")
     while is_cut(pasted):
         more = lines.next_within(SECONDS_FOR_REST)
         if more is None:
@@ -125,6 +125,23 @@ def cleaned(line: bytes) -> bytes:
     words = " ".join(text.split()).encode("utf-8", "surrogateescape")
     marks = REPLY_MARKS.match(words)
     return words[marks.end() :].strip() if marks else words
+
+
+def without_introduction(line: bytes) -> bytes:
+    """Returns a pasted line, cleaned, or nothing if it only introduces what follows."""
+    pasted = cleaned(line)
+    return b"" if is_introduction(pasted) else pasted
+
+
+def is_introduction(line: bytes) -> bool:
+    """Whether a line has no hash, but introduces a quoted e-mail, as "On Tue, Bob wrote:" does.
+
+    A time in it has colons too. In a line of a password file, a name or a field has no blanks.
+    """
+    fields = line.split(b":")
+    if len(fields) == 1 or fields[-1] or BEGINNING.search(line):
+        return False
+    return b" " in fields[0] and b" " in fields[-2]
 
 
 def field_of_pasted(pasted: bytes) -> bytes:

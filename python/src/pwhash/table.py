@@ -12,6 +12,7 @@ from typing import Iterator, List, NamedTuple, Optional, Protocol, Tuple
 from pwhash import headings
 from pwhash.errors import Stop, UsageError
 from pwhash.lines import Line, LineGroups
+from pwhash.shown_names import list_headings
 from pwhash.source import Source
 
 LONGEST_ROW = 1 << 17  # bytes of a row or a field; csv accepts no longer fields
@@ -154,7 +155,7 @@ class Table:
         names = fold_row(first)
         known = names if self._has_names() else NUMBERS
         if any(known.count(each) != 1 for each in [*self._wanted, *self._others]):
-            raise self._no_columns()
+            raise self._no_columns([field.encode(BYTES) for field in first])
         name, second = [*(known.index(each) for each in self._wanted), None][:2]
         assert name is not None
         # If columns are numbered, the second field may be a password such as "name".
@@ -190,16 +191,18 @@ class Table:
                 "surname, or leave it out."
             )
 
-    def _no_columns(self) -> UsageError:
+    def _no_columns(self, first_row: Sequence[bytes] = ()) -> UsageError:
+        found = list_headings(first_row)
+        there = f" Its first row has {found}." if found else ""
         if self._names_only:
             return UsageError(
                 "--columns, by default name, --by and --list-columns need names that are once in "
-                f"the first row of {self._name}, or if that has no names, numbers, as 1. Save "
-                "UTF-16 and Windows-1252 as UTF-8."
+                f"the first row of {self._name}, or if that has no names, numbers, as 1.{there} "
+                "Save UTF-16 and Windows-1252 as UTF-8."
             )
         return UsageError(
             "--columns, by default name,password, needs two names, each once in the first row of "
-            f"{self._name}, or if that has no names, numbers, as 1,2. Save UTF-16 as UTF-8."
+            f"{self._name}, or if that has no names, numbers, as 1,2.{there} Save UTF-16 as UTF-8."
         )
 
     def _limited(self, texts: Iterator[str]) -> Iterator[str]:
