@@ -39,10 +39,10 @@ def read_new_password(policy: Policy, accepts_doubtful: bool, console: Console) 
 def first_line(console: Console) -> bytes:
     """Returns the first line of standard input. Warns if further ones are there already."""
     lines = PipedLines(console)
-    first = lines.next()
+    password = lines.password()
     if lines.next_at_once():
         console.say("only the first line was hashed; pwhash file hashes lines name:password.")
-    return first or b""
+    return password
 
 
 def refuse_doubtful(policy: Policy, password: bytes, is_typed: bool) -> None:

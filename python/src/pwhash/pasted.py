@@ -20,7 +20,7 @@ from pwhash.prompt import Ask
 
 PASSWORD_PROMPT, HASH_PROMPT = b"Password: ", b"Hash (not shown either): "
 REST_PROMPT = b"It isn't whole. The rest, or just Return: "
-MAX_PASTED = 4096  # bytes of a line with a hash; the longest hash has 144
+MAX_PASTED = 4096  # bytes of the lines with a hash; the longest hash has 144
 SECONDS_FOR_REST = 5  # that a pipe may take to bring the rest of a hash
 SHOWS_NOTHING = {ord(each): None for each in "\u00ad\u200b\u200c\u200d\u2060\ufeff"}
 # The quotes of word processors, as shells and configurations write them.
@@ -81,6 +81,7 @@ def piped_both(console: Console) -> Pasted:
     """Reads a password and a hash from standard input, the hash perhaps in several lines."""
     lines = PipedLines(console)
     password = lines.password()
+    lines.limit(MAX_PASTED, long_hash_error())
     line = lines.next()
     if line is None:
         raise no_hash_error()
@@ -109,6 +110,11 @@ def no_hash_error() -> UsageError:
     )
 
 
+def long_hash_error() -> UsageError:
+    """Returns the error for lines that are much too long for a hash."""
+    return UsageError(f"the lines with the hash have more than {MAX_PASTED:,} bytes.")
+
+
 def several_hashes_error() -> UsageError:
     """Returns the error for two hashes where there should be one."""
     return UsageError("there is more than one hash. Give only the one to compare with.")
@@ -120,7 +126,7 @@ def cleaned(line: bytes) -> bytes:
     Refuses a line that is much too long for a hash, on which a search could take hours.
     """
     if len(line) > MAX_PASTED:
-        raise UsageError(f"the line with the hash has more than {MAX_PASTED:,} bytes.")
+        raise long_hash_error()
     text = line.decode("utf-8", "surrogateescape").translate(SHOWS_NOTHING).translate(AS_ASCII)
     words = " ".join(text.split()).encode("utf-8", "surrogateescape")
     marks = REPLY_MARKS.match(words)

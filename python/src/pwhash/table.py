@@ -13,9 +13,9 @@ from pwhash import headings
 from pwhash.errors import Stop, UsageError
 from pwhash.lines import Line, LineGroups
 from pwhash.shown_names import list_headings
-from pwhash.source import Source
+from pwhash.source import LONGEST_LINE, Source
 
-LONGEST_ROW = 1 << 17  # bytes of a row or a field; csv accepts no longer fields
+LONGEST_ROW = LONGEST_LINE  # also if the row has several lines
 SEPARATORS = {",": "a comma", ";": "a semicolon", "\t": "a tab"}
 NAME_IN_LISTS = "name"  # the heading of user names in a list of new passwords
 NUMBERS = [str(number) for number in range(1, 100)]  # that can be given instead of names
@@ -352,7 +352,6 @@ class Texts(Iterator[str]):
     """The lines of a source, one after the other, as csv needs them."""
 
     def __init__(self, source: Source) -> None:
-        self._source = source
         self._arrivals = source.lines()
         self._waiting: Iterator[Line] = iter(())
         self._next: Optional[Line] = None
@@ -364,11 +363,6 @@ class Texts(Iterator[str]):
             if self._is_end:
                 raise StopIteration
         line, self._next = self._next, None
-        if len(line.data) > LONGEST_ROW:
-            raise Stop(
-                f"{self._source.name}, line {line.number}: longer than 128 KiB, "
-                "which no row may be."
-            )
         return line.data.decode(BYTES) + "\n"
 
     def is_ready(self) -> bool:
