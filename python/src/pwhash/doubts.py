@@ -8,6 +8,7 @@ from collections.abc import Iterator
 from typing import List, Optional
 
 from pwhash import exports, headings
+from pwhash.field import is_encoded
 from pwhash.lines import BYTE_ORDER_MARK, Line
 from pwhash.names import FirstLines
 from pwhash.options import Service
@@ -118,7 +119,7 @@ def find_odd_fields(name: bytes, password: bytes, is_table: bool) -> Iterator[st
         yield "a heading at the end: was a list joined without a line feed before it?"
     if exports.is_damaged(name, is_table) or exports.is_damaged(password, is_table):
         yield "an error or a changed value of a spreadsheet or another export"
-    if exports.is_stored(password):
+    if exports.is_stored(password) or is_encoded(password):
         yield "a stored hash or field, not a password"
     if exports.is_digest(password):
         yield "a digest, as databases store it in place of a password"

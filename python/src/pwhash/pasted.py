@@ -14,7 +14,7 @@ from mkpasswd import State
 from pwhash import library
 from pwhash.console import Console
 from pwhash.errors import UsageError
-from pwhash.field import without_prefix
+from pwhash.field import encoded_value, without_prefix
 from pwhash.piped import PipedLines
 from pwhash.prompt import Ask
 
@@ -187,7 +187,7 @@ def second_field(line: bytes) -> bytes:
     name, colon, rest = bare.partition(b":")
     if not colon or begins_like_hash(without_prefix(name)):
         return name
-    return rest.partition(b":")[0].strip(QUOTES)
+    return encoded_value(rest) or rest.partition(b":")[0].strip(QUOTES)
 
 
 def without_blanks(text: bytes) -> bytes:

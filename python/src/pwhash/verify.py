@@ -15,7 +15,7 @@ from mkpasswd import State
 from pwhash import library
 from pwhash.console import STDIN, STDOUT, Console
 from pwhash.errors import UsageError
-from pwhash.field import without_prefix
+from pwhash.field import ENCODED, is_encoded, without_prefix
 from pwhash.library import OVER_BUDGET, Refusal, Verdict
 from pwhash.lines import BYTE_ORDER_MARK
 from pwhash.options import VerifyOptions
@@ -129,6 +129,8 @@ def whole_hash(field: bytes, whose: str, advice: str = "") -> bytes:
 
 def describe_problem(stored: bytes) -> Optional[str]:
     """Says why no password can match a stored field, or returns None."""
+    if is_encoded(stored):
+        return ENCODED
     found = library.describe(stored)
     if found.state is State.UNKNOWN or stored.startswith(b"{"):
         return f"a hash of {found.scheme or 'another scheme'}, which pwhash can't check"
