@@ -5,13 +5,14 @@ from __future__ import annotations
 import re
 import unicodedata
 from collections.abc import Iterator
-from typing import List, Optional
+from typing import FrozenSet, List
 
 from pwhash import exports, headings
 from pwhash.field import is_encoded
 from pwhash.lines import BYTE_ORDER_MARK, Line
 from pwhash.names import FirstLines
-from pwhash.options import Service
+from pwhash.options import FileOptions, Service
+from pwhash.superuser import superuser_names
 from pwhash.text import DECOMPOSED, is_utf8, is_visible
 
 SEPARATOR = re.compile(rb"[,;\t| ]")
@@ -43,11 +44,14 @@ NOT_UTF8 = (
 class Doubts:
     """Finds doubts about lines, in the order of the file, and remembers their names."""
 
-    def __init__(self, service: Optional[Service], is_table: bool, windows: bool) -> None:
-        self._service_name = SERVICE_NAMES[service] if service else None
-        self._is_table = is_table
-        self._windows = windows
+    def __init__(self, options: FileOptions) -> None:
+        self._service_name = SERVICE_NAMES[options.service] if options.service else None
+        self._is_table = options.input.columns is not None
+        self._windows = options.input.windows
         self._names = FirstLines()
+        # A table, or a list of names that get new passwords, is of people such as pupils.
+        is_of_people = self._is_table or options.generate is not None
+        self._superusers: FrozenSet[bytes] = superuser_names() if is_of_people else frozenset()
 
     def find(self, line: Line) -> List[str]:
         """Returns all doubts about a line that mkpasswd accepts."""
@@ -63,6 +67,8 @@ class Doubts:
             found += find_signs_of_table(line.data, name, password)
         else:
             found += find_signs_of_wrong_columns(name, self._service_name is not None)
+        if name in self._superusers:
+            found.append("the superuser: whoever has this password could change everything")
         if self._service_name and not self._service_name.fullmatch(name):
             found.append("the service takes the name for another, or skips it")
         again = self._names.check(name, line.number, bool(found))

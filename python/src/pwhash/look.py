@@ -27,8 +27,7 @@ class Look:
         self._source = source
         self._options = options
         self._console = console
-        is_table = options.input.columns is not None
-        self._doubts = Doubts(options.service, is_table, options.input.windows)
+        self._doubts = Doubts(options)
         self._counts: Counter[str] = Counter()
         self._hidden = 0  # problems that aren't shown
         self._has_lines = False  # after --skip-locked and --skip-unknown
