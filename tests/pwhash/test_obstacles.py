@@ -66,6 +66,15 @@ def test_what_is_in_the_way_is_named_and_stays(
 
 
 @pytest.mark.parametrize("name", [NEW_FILE, EXCHANGE])
+def test_nobody_types_a_password_before_that(name: str) -> None:
+    save("passwords", OLD)
+    os.mkdir(name)
+    done = pwhash(*SET, stdin=b"")
+    assert done.status == 3 and name.encode() in done.err and b"empty" not in done.err, done
+    assert not os.path.exists(LOCK), done
+
+
+@pytest.mark.parametrize("name", [NEW_FILE, EXCHANGE])
 def test_what_is_in_the_way_of_a_first_password_file_is_named(name: str) -> None:
     os.mkdir(name)
     done = changed_by(INSTALL)

@@ -137,7 +137,7 @@ def version(status: os.stat_result) -> "tuple[int, ...]":
 
 def end_earlier_exchange(place: Place) -> None:
     """Ends the exchange of a process that was killed."""
-    refuse_new_folder(place)
+    refuse_obstacles(place)
     pair = read_note(place)
     if pair is None:  # so the new file was never in place
         with errors_of_new(place), contextlib.suppress(FileNotFoundError):
@@ -155,29 +155,39 @@ def errors_of_new(place: Place) -> ContextManager[None]:
     return errors_named(f"{place.display_name}.mkpasswd.new")
 
 
-def refuse_new_folder(place: Place) -> None:
-    """Refuses a folder where the new version of the file has to be."""
-    found = place.status_of(place.new)
-    if found is not None and stat.S_ISDIR(found.st_mode):
+def refuse_obstacles(place: Place) -> None:
+    """Refuses a folder where the new file has to be, and what isn't a link where the note has to.
+
+    Called before pwhash asks for a password, too, and then without the lock.
+    """
+    new, note = place.status_of(place.new), place.status_of(place.note)
+    if new is not None and stat.S_ISDIR(new.st_mode):
         raise Stop(
             f"{place.display_name}.mkpasswd.new is a folder, where the new version of the file has "
             "to be. Look at it, and move or remove it."
         )
+    if note is not None and not stat.S_ISLNK(note.st_mode):
+        raise strange_note_error(place)
 
 
 def read_note(place: Place) -> Optional[Pair]:
     """Returns the two inodes in the note, or None if there is no note."""
-    status = place.status_of(place.note)
-    if status is None:
+    try:
+        note = os.readlink(place.note, dir_fd=place.folder)
+    except FileNotFoundError:
         return None
-    is_link = stat.S_ISLNK(status.st_mode)
-    found = NOTE.fullmatch(os.readlink(place.note, dir_fd=place.folder)) if is_link else None
+    found = NOTE.fullmatch(note)
     if found is None:
-        raise Stop(
-            f"{place.display_name}.mkpasswd.exchange isn't a link that pwhash or pam_mkpasswd "
-            "made. Look at it, and remove it."
-        )
+        raise strange_note_error(place)
     return Pair(int(found[1]), int(found[2]))
+
+
+def strange_note_error(place: Place) -> Stop:
+    """Returns the error for a note that isn't one."""
+    return Stop(
+        f"{place.display_name}.mkpasswd.exchange isn't a link that pwhash or pam_mkpasswd made. "
+        "Look at it, and remove it."
+    )
 
 
 def put_back(place: Place, pair: Pair) -> None:

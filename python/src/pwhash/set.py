@@ -5,6 +5,7 @@ from __future__ import annotations
 from pwhash import field, library, password_file, system_files
 from pwhash.doubts import SERVICE_NAMES
 from pwhash.errors import ProblemsFound, UsageError
+from pwhash.exchange import refuse_obstacles
 from pwhash.field import Field
 from pwhash.library import Refusal
 from pwhash.lines import refused_name
@@ -53,6 +54,7 @@ def refuse_unfit(place: Place) -> None:
     system_files.refuse_place(place, status)
     refuse_open_folder(place, status.st_uid)
     refuse_unwritable(place)
+    refuse_obstacles(place)
 
 
 def hash_of_password(options: SetOptions, session: Session) -> bytes:
