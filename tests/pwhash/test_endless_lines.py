@@ -86,14 +86,15 @@ def test_a_line_above_the_limit_ends_the_run_while_it_still_comes(
     "words",
     [
         pytest.param(("file", "/dev/zero"), id="file"),
-        pytest.param(("file", "--generate", "--look", "/dev/zero", "--quiet"), id="names"),
+        pytest.param(("file", "--csv", "--columns", "1,2", "/dev/zero"), id="a table"),
         pytest.param(("check", "/dev/zero"), id="check"),
         pytest.param(("audit", "/dev/zero"), id="audit"),
     ],
 )
 def test_a_device_without_an_end_is_no_list(words: tuple[str, ...]) -> None:
     done = pwhash(*words)
-    assert done.status in (2, 3) and done.out == b"" and done.err.count(b"\n") == 1, done
+    assert (done.status, done.out) == (3, b"") and done.err.count(b"\n") == 1, done
+    assert b"/dev/zero, line 1: longer than 128 KiB" in done.err, done
 
 
 @pytest.mark.parametrize(

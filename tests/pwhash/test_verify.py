@@ -455,6 +455,9 @@ def test_a_pasted_hash_is_compared_and_not_shown(typed: bytes, status: int) -> N
         pytest.param([MD5[:12].encode() + b"\r" + MD5[12:].encode() + b"\r"], id="one inside"),
         pytest.param([MD5[:12].encode() + b"\r" + MD5[12:].encode(), b"\r"], id="Return later"),
         pytest.param([b"ann:" + MD5.encode() + b":1:0:9:7:::\r"], id="a line from shadow"),
+        pytest.param(
+            [b"> On Tue, Bob wrote:\r", b"> > " + MD5.encode() + b"\r"], id="who wrote an e-mail"
+        ),
     ],
 )
 def test_line_breaks_in_a_pasted_hash_do_not_end_it(keys: list[bytes]) -> None:
