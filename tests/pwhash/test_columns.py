@@ -127,6 +127,54 @@ def test_columns_that_cannot_be_found_are_named(table: bytes, words: tuple[str, 
     assert done.status == 2 and b"--columns" in done.err and b"line 1" not in done.err, done
 
 
+HEADINGS = [
+    pytest.param(b"Login;Kennwort;Klasse", b"Login, Kennwort, Klasse", id="three headings"),
+    pytest.param(b"last,first,login,class", b"login and 3 more", id="one word of headings"),
+    pytest.param(b"Name,E-Mail,Room 5", b"Name, E-Mail and 1 more", id="a blank"),
+    pytest.param(
+        b"user,password,TopSecret1", b"user, password and 1 more", id="perhaps a password"
+    ),
+    pytest.param(b"name,name,password", b"name, name, password", id="a repeated heading"),
+]
+
+
+@pytest.mark.parametrize(("heading", "named"), HEADINGS)
+@pytest.mark.parametrize(
+    "words",
+    [
+        pytest.param(("--columns", "name,secret"), id="of passwords"),
+        pytest.param(("--generate", "--look", "--columns", "user-name"), id="of names"),
+    ],
+)
+def test_a_wrong_heading_is_answered_by_the_right_ones(
+    heading: bytes, named: bytes, words: tuple[str, ...]
+) -> None:
+    save("table", heading + b"\nann,bob,hunter2\n")
+    done = pwhash("file", "--csv", "table", *words)
+    assert (done.status, done.out) == (2, b"") and b"first row has " + named in done.err, done
+    assert b"hunter2" not in done.err and b"TopSecret" not in done.err, done
+
+
+@pytest.mark.parametrize(
+    "row",
+    [
+        pytest.param(b"ann,tulip", id="a name and a word"),
+        pytest.param(b"ann,password", id="a name and the password password"),
+        pytest.param(b"ann,TopSecret1", id="a name and a password"),
+        pytest.param(b"mail,tulip", id="a service's name and a word"),
+        pytest.param(b"tulip,ann,room", id="a password first"),
+    ],
+)
+def test_a_first_row_with_a_user_is_not_shown(row: bytes) -> None:
+    save("table", row + b"\nbob,hunter2\n")
+    for words in ("--columns", "login,secret"), ("--generate", "--look", "--columns", "user"):
+        done = pwhash("file", "--csv", "table", *words)
+        assert (done.status, done.out) == (2, b"") and b"hunter2" not in done.err, done
+        said = done.err.replace(b"by default name,password", b"")
+        values = (b"tulip", b"TopSecret", b"password", b" ann")
+        assert not any(value in said for value in values), done
+
+
 def test_a_first_row_that_is_not_csv_is_named_by_line() -> None:
     table = save("table", b"\n\nname\rpassword\rann,x\n")
     done = pwhash("file", *MD5CRYPT, "--csv", table)

@@ -65,6 +65,48 @@ def test_20_lines_with_the_same_problem_are_named() -> None:
     assert b"21 with --skip-refused" in done.err, done
 
 
+REFUSED, DOUBTFUL = "--skip-refused", "--skip-doubtful"
+ACCEPT = "--accept-doubtful"
+
+
+@pytest.mark.parametrize(
+    ("lines", "words", "named"),
+    [
+        pytest.param(b"nameless\n", (), {f"(1 with {REFUSED})"}, id="refused"),
+        pytest.param(b"eve:\n", (), {f"(1 with {DOUBTFUL})", ACCEPT}, id="doubtful"),
+        pytest.param(b"nameless\n" * 30, (), {f"--look {REFUSED}."}, id="many refused"),
+        pytest.param(b"eve:\n" * 30, (), {f"--look {DOUBTFUL}.", ACCEPT}, id="many doubtful"),
+        pytest.param(
+            *(b"nameless\neve:\n", (), {f"(1 with {REFUSED}, 1 with {DOUBTFUL})", ACCEPT}),
+            id="both",
+        ),
+        pytest.param(
+            *(b"nameless\neve:\n", (ACCEPT,), {f"(1 with {REFUSED})"}), id="doubtful and accepted"
+        ),
+    ],
+)
+def test_only_options_that_apply_are_named(
+    lines: bytes, words: tuple[str, ...], named: set[str]
+) -> None:
+    save("lines", b"ann:x\n" + lines)
+    done = pwhash(*TO_OUT, *words)
+    said = done.err.decode()
+    assert done.status == 1 and all(each in said for each in named), done
+    for option in (REFUSED, DOUBTFUL, ACCEPT):
+        assert (option in said) == any(option in each for each in named), done
+    assert "(0 " not in said and " 0 " not in said, done
+
+
+def test_a_run_does_not_say_what_could_be_done_after_it_was_done() -> None:
+    save("lines", b"ann:x\nnameless\n")
+    for words in (*WORDS, "lines"), TO_OUT:
+        done = pwhash(*words, REFUSED)
+        assert done.status == 1 and b"lines left out: 1" in done.err, done
+        assert b"can be hashed" not in done.err, done
+    done = pwhash(*WORDS, "lines", "--look", REFUSED)
+    assert done.status == 1 and b"can be hashed" in done.err, done
+
+
 def test_no_password_is_shown() -> None:
     done = looked_at()
     assert b"secret" not in done.err, done

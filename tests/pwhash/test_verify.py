@@ -146,6 +146,13 @@ PASTED = [
     pytest.param(b"<user_password>FIRSTREST</user_password>", id="a line of AutoYaST"),
     pytest.param(b"userPassword: {CRYPT}FIRSTREST", id="a line of LDIF"),
     pytest.param(b"> > FIRST\n> > REST\n", id="a reply to an e-mail"),
+    pytest.param(b"> On Tue, Bob wrote:\n> > ann:FIRSTREST\n", id="who wrote an e-mail"),
+    pytest.param(
+        b"On Tue, 1 Dec 2026 at 14:18, Bob <bob@example.org> wrote:\r\n> FIRST\r\n> REST",
+        id="when somebody wrote an e-mail",
+    ),
+    pytest.param("Bob a \xe9crit\xa0:\n\n> FIRSTREST".encode(), id="who wrote it, in French"),
+    pytest.param(b"the hash of ann: FIRSTREST", id="words before the hash"),
     pytest.param("\u201cFIRSTREST\u201d".encode(), id="quotes of a word processor"),
     pytest.param(b"HOST$:FIRSTREST:19000::::::", id="the account of a machine"),
 ]
@@ -305,6 +312,9 @@ def test_a_password_that_no_hash_can_have_is_refused(password: bytes, reason: by
         pytest.param(SECRET + b"\n", b"second", id="a password and a line feed"),
         pytest.param(SECRET + b"\nann::" + MD5.encode(), b"empty", id="a line without a hash"),
         pytest.param(SECRET + b"\n(" + MD5.encode() + b")", b"stored as it is", id="brackets"),
+        pytest.param(SECRET + b"\n> On Tue, Bob wrote:\n", b"no hash", id="who wrote an e-mail"),
+        pytest.param(SECRET + b"\nann smith:!:1:", b"locked", id="a name of two words"),
+        pytest.param(SECRET + b"\nann smith:x:", b"stored as it is", id="a field of one letter"),
         # A search of so many bytes for a hash once took more than a minute.
         pytest.param(SECRET + b"\n" + b"!" * 131000, b"4,096 bytes", id="much too many bytes"),
     ],
@@ -476,6 +486,9 @@ def test_a_pasted_hash_is_compared_and_not_shown(typed: bytes, status: int, answ
         pytest.param([MD5_SETTING + b"\r" + MD5_DIGEST + b"\r"], id="one inside"),
         pytest.param([MD5_SETTING + b"\r" + MD5_DIGEST, b"\r"], id="Return later"),
         pytest.param([b"ann:" + MD5.encode() + b":1:0:9:7:::\r"], id="a line from shadow"),
+        pytest.param(
+            [b"> On Tue, Bob wrote:\r", b"> > " + MD5.encode() + b"\r"], id="who wrote an e-mail"
+        ),
     ],
 )
 def test_line_breaks_in_a_pasted_hash_do_not_end_it(keys: list[bytes]) -> None:

@@ -8,6 +8,7 @@ from typing import List, NamedTuple, Optional, Set, Union
 from pwhash import library
 from pwhash.accounts import Accounts
 from pwhash.answers import Answer, Writer, refusal_answer, refused_row_answer
+from pwhash.field import ENCODED, is_encoded
 from pwhash.library import OVER_BUDGET, PASSWORD_TOO_LONG, PASSWORD_ZERO_BYTE, Refusal, Verdict
 from pwhash.lines import (
     LINE_TOO_LONG,
@@ -76,6 +77,7 @@ class Checking:
         )
         self._first_fields = FirstFields()
         self._with_another_field: List[int] = []  # numbers of lines
+        self._encoded: List[int] = []  # those with a hash in Base64
         self._printed: Set[str] = set()
         self._renewed: Set[bytes] = set()  # the names that have got a new hash
         self._has_bad_line = False
@@ -127,9 +129,14 @@ class Checking:
                 "lines whose name has another field in an earlier line, by which services judge "
                 f"(the first {MAX_NAMED}): {self._with_another_field}."
             )
+        if self._encoded:
+            self._report_encoded("lines", self._encoded)
         accounts = self._accounts
         if accounts is None:
             return
+        if accounts.encoded:
+            shadow = display_name(self._options.shadow or "")
+            self._report_encoded(f"lines of {shadow}", accounts.encoded)
         if accounts.absent:
             shadow = display_name(self._options.shadow or "")
             self._console.say(
@@ -144,6 +151,10 @@ class Checking:
         if accounts.odd:
             self._console.say(f"lines that aren't UTF-8, or have a zero byte: {accounts.odd:,}.")
 
+    def _report_encoded(self, lines: str, numbers: List[int]) -> None:
+        """Names lines with a hash that no password can match before it is decoded."""
+        self._console.say(f"{lines} with {ENCODED}. The first {MAX_NAMED}: {numbers}.")
+
     def _lines(self) -> LineGroups:
         lines = lines_of(self._source)
         return lines if self._accounts is None else self._accounts.lines_to_check(lines)
@@ -157,9 +168,13 @@ class Checking:
                 self._note_field(answer.line)
 
     def _note_field(self, line: Line) -> None:
-        """Notes a line whose name has another field in an earlier line."""
+        """Notes a hash in Base64, and a name that has another field in an earlier line."""
         fields = fields_to_check(line.data)
-        if fields is None or len(self._with_another_field) == MAX_NAMED:
+        if fields is None:
+            return
+        if len(self._encoded) < MAX_NAMED and is_encoded(fields.stored):
+            self._encoded.append(line.number)
+        if len(self._with_another_field) == MAX_NAMED:
             return
         if self._first_fields.is_another(fields.name, fields.stored, line.number):
             self._with_another_field.append(line.number)

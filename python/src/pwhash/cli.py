@@ -406,11 +406,12 @@ def set_options(parser: Parser, parsed: argparse.Namespace) -> Options:
         raise parser.usage_error(
             "name a password file and whose line to change: pwhash set FILE NAME"
         )
-    refuse_unfit_name(parser, parsed.name)
+    name = os.fsencode(parsed.name)
+    refuse_unfit_name(parser, name)
     return SetOptions(
         policy=read_policy(parser, parsed),
         path=parsed.file,
-        name=os.fsencode(parsed.name),
+        name=name,
         action=read_action(parser, parsed),
         service=Service(parsed.service) if parsed.service else None,
         generate=parsed.generate,
@@ -432,13 +433,15 @@ def read_action(parser: Parser, parsed: argparse.Namespace) -> Action:
     return chosen[0] if chosen else Action.PASSWORD
 
 
-def refuse_unfit_name(parser: Parser, name: str) -> None:
+def refuse_unfit_name(parser: Parser, name: bytes) -> None:
     """Refuses a name with which no line can begin, or that services skip as a comment."""
-    if ":" in name:
+    if b":" in name:
         raise parser.usage_error("NAME has a colon in it, with which names end in password files")
-    if CONTROL_CHARACTER.search(name):
+    # Not the argument itself: where the locale isn't of UTF-8, half a letter looks like a control
+    # character there.
+    if CONTROL_CHARACTER.search(name.decode(errors="replace")):
         raise parser.usage_error("NAME has a control character in it")
-    if name.startswith("#"):
+    if name.startswith(b"#"):
         raise parser.usage_error("NAME begins with a #, as comments do")
 
 

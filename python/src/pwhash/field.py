@@ -6,6 +6,7 @@ the prefix.
 
 from __future__ import annotations
 
+import binascii
 import re
 from typing import NamedTuple, Optional
 
@@ -51,6 +52,7 @@ OF_OTHER_METHODS = re.compile(
     rb"|\$[PH]\$[./0-9A-Za-z]{31}"  # phpass
     rb"|\$pbkdf2(?:-sha(?:256|512))?\$[0-9]+\$[./0-9A-Za-z]+\$[./0-9A-Za-z]+"  # passlib's
 )
+ENCODED = "a hash in Base64, as LDIF writes it: decode it first (base64 -d)"
 # The states of whole hashes: neither a plain password nor a damaged hash.
 HASHES = (
     mkpasswd.State.CURRENT,
@@ -158,6 +160,29 @@ def field_of(data: bytes) -> Field:
     found = FORM.fullmatch(data)
     assert found is not None  # each part may be empty
     return Field(*found.groups())
+
+
+def is_encoded(stored: bytes) -> bool:
+    """Whether this is the Base64 of a field with a prefix such as {SSHA}, or begins like that.
+
+    LDIF writes values in Base64, and continues long ones on the next line.
+    """
+    found = BASE64.fullmatch(stored)
+    if found is None:
+        return False
+    whole = len(found[1]) // 4 * 4  # four characters stand for three bytes
+    decoded = field_of(binascii.a2b_base64(found[1][:whole]))
+    return decoded.has_known_prefix and bool(decoded.stored)
+
+
+def encoded_value(rest: bytes) -> bytes:
+    """Returns the Base64 of a field in what follows a name and its colon, or nothing.
+
+    LDIF has a second colon and a blank in front of it, as in userPassword:: e1NTSEF9..
+    """
+    first, _, others = rest.partition(b":")
+    value = first or others.strip()
+    return value if is_encoded(value) else b""
 
 
 def without_prefix(field: bytes) -> bytes:

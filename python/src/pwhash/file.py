@@ -105,8 +105,7 @@ class Hashing:
         self._memory = Memory()
         self._bytes_for_hash = library.memory_of_new_hash(options.policy)
         self._part: Optional[Part] = None
-        is_table = options.input.columns is not None
-        self._doubts = Doubts(options.service, is_table, options.input.windows)
+        self._doubts = Doubts(options)
 
     def hash_into(self, part: Part, groups: LineGroups) -> None:
         """Hashes lines into a part."""

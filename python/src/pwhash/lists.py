@@ -41,15 +41,12 @@ class ListWriter:
 
     def make_folder(self) -> None:
         """Creates the folder for several lists."""
-        before = os.umask(0o777 & ~FOLDER_MODE)  # so that the mode is exactly FOLDER_MODE
         try:
             os.mkdir(self._target.name, FOLDER_MODE, dir_fd=self._target.folder)
         except FileExistsError:
             raise exists_error(self._target) from None
         except OSError as error:
             raise Stop(f"{self._target.display_name}: {reason_of(error)}.") from None
-        finally:
-            os.umask(before)
         self._folder = open_own_folder(self._target)
         sync_folder_of(self._target)
 

@@ -9,6 +9,7 @@ from __future__ import annotations
 import contextlib
 import fcntl
 import os
+import stat
 import time
 from collections.abc import Iterator
 from typing import NamedTuple, Optional
@@ -44,6 +45,12 @@ def hold_lock(place: Place, owner: Owner) -> Iterator[None]:
 
 def wait_for_lock(place: Place, owner: Owner) -> int:
     """Waits for the lock, and returns its descriptor."""
+    found = place.status_of(place.lock)
+    if found is not None and stat.S_ISLNK(found.st_mode):
+        raise Stop(
+            f"{place.display_name}.mkpasswd.lock is a symbolic link, which pwhash never makes. "
+            "Look at it, and remove it."
+        )
     end = time.monotonic() + MAX_WAIT_SECONDS
     lock = try_once(place, owner)
     while lock is None:

@@ -10,6 +10,7 @@ from __future__ import annotations
 import re
 from collections.abc import Sequence
 
+from pwhash import headings
 from pwhash.exports import is_digest, is_stored
 from pwhash.text import printable
 
@@ -77,3 +78,25 @@ def list_names(names: Sequence[bytes]) -> str:
     if hidden == 1:
         return "1, not shown since it may be a password"
     return f"{hidden:,}, not shown since they may be passwords"
+
+
+def list_headings(row: Sequence[bytes]) -> str:
+    """Returns the headings in the first row of a table for a message, as "login and 2 more".
+
+    Returns nothing if they may be values, and so passwords. A row with two words that head columns
+    of names or passwords is one of headings. A single such word may be a user's name or a password.
+    """
+    is_heading_row = sum(headings.is_known(field) for field in row) > 1
+    all_shown = [field.strip() for field in row if may_show_heading(field, is_heading_row)]
+    shown = [printable(field) for field in all_shown[:MAX_NAMED]]
+    if not shown:
+        return ""
+    hidden = len(row) - len(shown)
+    return ", ".join(shown) + (f" and {hidden:,} more" if hidden else "")
+
+
+def may_show_heading(field: bytes, is_heading_row: bool) -> bool:
+    """Whether a field of a first row is surely no password."""
+    if is_heading_row:
+        return headings.is_known(field) or is_no_password(field)
+    return headings.fold(field) in headings.NAMES

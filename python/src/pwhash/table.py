@@ -12,9 +12,10 @@ from typing import Iterator, List, NamedTuple, Optional, Protocol, Tuple
 from pwhash import headings
 from pwhash.errors import Stop, UsageError
 from pwhash.lines import Line, LineGroups
-from pwhash.source import Source
+from pwhash.shown_names import list_headings
+from pwhash.source import LONGEST_LINE, Source
 
-LONGEST_ROW = 1 << 17  # bytes of a row or a field; csv accepts no longer fields
+LONGEST_ROW = LONGEST_LINE  # also if the row has several lines
 SEPARATORS = {",": "a comma", ";": "a semicolon", "\t": "a tab"}
 NAME_IN_LISTS = "name"  # the heading of user names in a list of new passwords
 NUMBERS = [str(number) for number in range(1, 100)]  # that options take in place of names
@@ -158,7 +159,7 @@ class Table:
         names = fold_row(first)
         known = names if self._has_names() else NUMBERS
         if any(known.count(each) != 1 for each in [*self._wanted, *self._others]):
-            raise self._no_columns()
+            raise self._no_columns([field.encode(BYTES) for field in first])
         wanted = [known.index(each) for each in self._wanted]
         name = wanted[0]
         second = wanted[1] if len(wanted) > 1 else None
@@ -196,16 +197,18 @@ class Table:
                 "surname, or leave it out."
             )
 
-    def _no_columns(self) -> UsageError:
+    def _no_columns(self, first_row: Sequence[bytes] = ()) -> UsageError:
+        found = list_headings(first_row)
+        there = f" Its first row has {found}." if found else ""
         if self._names_only:
             return UsageError(
                 "--columns, by default name, --by and --list-columns need names that are once in "
-                f"the first row of {self._name}, or if that has no names, numbers, as 1. Save "
-                "UTF-16 and Windows-1252 as UTF-8."
+                f"the first row of {self._name}, or if that has no names, numbers, as 1.{there} "
+                "Save UTF-16 and Windows-1252 as UTF-8."
             )
         return UsageError(
             "--columns, by default name,password, needs two names, each once in the first row of "
-            f"{self._name}, or if that has no names, numbers, as 1,2. Save UTF-16 as UTF-8."
+            f"{self._name}, or if that has no names, numbers, as 1,2.{there} Save UTF-16 as UTF-8."
         )
 
     def _limited(self, texts: Iterator[str]) -> Iterator[str]:
@@ -357,7 +360,6 @@ class Texts(Iterator[str]):
     """The lines of a source, one after the other, as csv needs them."""
 
     def __init__(self, source: Source) -> None:
-        self._source = source
         self._arrivals = source.lines()
         self._waiting: Iterator[Line] = iter(())
         self._next: Optional[Line] = None
@@ -369,11 +371,6 @@ class Texts(Iterator[str]):
             if self._is_end:
                 raise StopIteration
         line, self._next = self._next, None
-        if len(line.data) > LONGEST_ROW:
-            raise Stop(
-                f"{self._source.name}, line {line.number}: longer than 128 KiB, "
-                "which no row may be."
-            )
         return line.data.decode(BYTES) + "\n"
 
     def is_ready(self) -> bool:

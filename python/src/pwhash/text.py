@@ -26,6 +26,13 @@ def is_utf8(data: bytes) -> bool:
     return True
 
 
+def encoding_hint(name: bytes) -> str:
+    """Returns a sentence, with a blank before it, if a name from the command line isn't UTF-8."""
+    if is_utf8(name):
+        return ""
+    return " NAME isn't UTF-8: the terminal may have another encoding than the file."
+
+
 def is_visible(text: str) -> bool:
     """Whether each character shows something, or is a blank."""
     return text.isprintable() and not SHOWS_NOTHING.search(text)
