@@ -19,6 +19,7 @@ from support.release import (
     oldest_glibc,
     pack,
     processor_of_build,
+    version,
 )
 
 pytestmark = pytest.mark.xdist_group("archive")  # so that it is packed once
@@ -36,6 +37,20 @@ def members(archive: Archive) -> list[tarfile.TarInfo]:
 
 
 # ---- Packing
+
+
+@pytest.mark.parametrize(
+    ("argument", "machine"),
+    [
+        pytest.param("CPU=", "x86_64", id="for this machine"),
+        pytest.param("TARGET=aarch64", "aarch64", id="for ARM"),
+    ],
+)
+def test_make_passes_the_name_of_the_archive_to_the_tools(argument: str, machine: str) -> None:
+    rule = '--eval=archive-name: ; @printf %s "$$ARCHIVE"'
+    shown = run("make", "--silent", rule, "archive-name", argument, cwd=ROOT, env={"ARCHIVE": None})
+    name = f"mkpasswd-{version()}-{machine}-linux.tar.gz"
+    assert_result(shown, stdout=name.encode())
 
 
 @pytest.mark.parametrize(
