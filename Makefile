@@ -21,9 +21,6 @@ CFLAGS ?= -g -O2 '-ffile-prefix-map=$(CURDIR)=.' -fstack-protector-strong \
 	-fstack-clash-protection -Wformat -Werror=format-security $(BRANCHES)
 LDFLAGS ?= -Wl,-z,relro -Wl,-z,now
 
-# The scripts take these from the environment, whatever characters they have.
-export DESTDIR PREFIX LIBDIR ARCHIVE RT
-
 .DEFAULT_GOAL := all
 .PHONY: help all run static lib web npm pictures install uninstall test lint layers gate check \
 	bench soak fuzz evidence specification site dist wheel image deb sums clean FORCE
@@ -51,6 +48,10 @@ VERSION := $(shell tools/version)
 OWN = build/$(or $(CPU),x86-64-v2)
 FOR = $(or $(TARGET),$(CPU),x86-64)
 ARCHIVE ?= mkpasswd-$(VERSION)-$(subst -,_,$(FOR))-linux.tar.gz
+
+# The scripts take these from the environment, whatever characters they have. Earlier, this line
+# would give ARCHIVE an empty value, which `?=` keeps.
+export DESTDIR PREFIX LIBDIR ARCHIVE RT
 
 # These are built where Debian's packages for them are installed: the web pages need pandoc and
 # mandoc, the page that hashes needs binaryen, the PAM module PAM's headers. Archives and packages

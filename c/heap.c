@@ -97,6 +97,7 @@ static void wipe(char *block, size_t size)
     size_t begin = give_pages_back(block, size);
     size_t end = size < HUGE_PAGE ? 0 : size / CACHE_LINE * CACHE_LINE;
 
+    /* All of a small block, or the part of a large one after its last whole line. */
     explicit_bzero(block + end, size - end);
     while (end > begin) {
         char *line = block + end - CACHE_LINE;

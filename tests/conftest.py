@@ -103,7 +103,8 @@ def pytest_sessionfinish(session: pytest.Session, exitstatus: int) -> None:
 def reason_of(report: pytest.TestReport) -> str:
     """Returns why a test was skipped."""
     if isinstance(report.longrepr, tuple):
-        return report.longrepr[2].removeprefix("Skipped: ")
+        _file, _line, message = report.longrepr
+        return message.removeprefix("Skipped: ")
     return str(report.longrepr)
 
 

@@ -98,16 +98,16 @@ class Stopwatch:
         self._result = ""
         self._moments: dict[tuple[str, Part], Moment] = {}
 
-    def hear(self, line: str) -> None:
+    def record(self, line: str) -> None:
         """Records the time of a line that is about a part of a crate."""
         if TOTAL.match(line):
             self._result = line
         for part, pattern in PATTERNS.items():
             found = pattern.match(line)
             if found:
-                self._note(found[1], part)
+                self._record_part(found[1], part)
 
-    def _note(self, crate: str, part: Part) -> None:
+    def _record_part(self, crate: str, part: Part) -> None:
         before = self._moments.get((crate, part))
         lines = before.lines + 1 if before else 1
         self._moments[crate, part] = Moment(crate, part, self._seconds(), lines)

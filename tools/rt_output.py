@@ -38,9 +38,11 @@ PROVES_A_CRATE = re.compile(r"logic=proved functions=(\d+)")
 # "rt: must-fail prims_core/adds.edit: refused, as it must be: ./proofs/A.antt:1:2: error: .."
 REFUSES_A_MUTANT = re.compile(r"rt: (must-fail .* refused, .*)")
 # "rt: prims_core proved", "rt: prims_core is kept: ..", "rt: prims_core: trying its must-fail .."
-TELLS_OF_A_CRATE = re.compile(r"rt: ((?:waiting|[a-z_0-9]+(?::| is kept:| proved)).*)")
+IS_ABOUT_A_CRATE = re.compile(r"rt: ((?:waiting|[a-z_0-9]+(?::| is kept:| proved)).*)")
 # "127 passed, 0 failed"
 TOTAL = re.compile(r"\d+ passed, .*")
+# What rt, and the programs that it runs, print if something fails: "src/lib.rt:1:2: error: ..",
+# "rt: prims_core NOT PROVED", "thread 'main' panicked at .."
 FAILURE = re.compile(
     r"(?:: |^)error|: no proof|: not proved$|must prove|NOT (?:PROVED|REFUSED|TRIED)|BAD EDIT"
     r"|FAILED|differ first|ended with status|panicked"
@@ -221,9 +223,9 @@ class Display:
         elif TOTAL.match(line):
             self._show_progress(line)
         else:
-            told = TELLS_OF_A_CRATE.match(line)
-            if told:
-                self._show_progress(told[1])
+            about_a_crate = IS_ABOUT_A_CRATE.match(line)
+            if about_a_crate:
+                self._show_progress(about_a_crate[1])
 
     def end_line(self) -> None:
         """Ends the line of progress, so that another text can follow."""

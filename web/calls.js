@@ -1,13 +1,13 @@
 // The calls of the WebAssembly module. tools/web puts this file into each script that makes them:
 // mkpasswd.mjs, its workers and the page's worker.
 //
-// This file copies bytes into the module, reads its reports and gives scrypt its memory. Only the
-// module knows which rounds a method has, what a policy allows, what scheme a field is of, and how
-// much memory a hash needs.
+// This file copies bytes into the module, reads its reports and gives scrypt its memory. It doesn't
+// know which rounds a method has, what a policy allows, what scheme a field is of, or how much
+// memory a hash needs: it asks the module.
 
 const METHODS = { __proto__: null, md5crypt: 1, sha256crypt: 5, sha512crypt: 6, scrypt: 7 };
-// Stands for a method or rounds that can't be passed: the module refuses it.
-const NEITHER = 2 ** 32 - 1;
+// Stands for an unknown method, and for rounds that aren't a 32-bit integer: the module refuses it.
+const INVALID_NUMBER = 2 ** 32 - 1;
 const RECOMMENDED_BUDGET = 0;
 
 // ERRORS, a Map from the number of each error of mkpasswd.h to its name and message.
@@ -30,6 +30,7 @@ function kindOf(value) {
     return typeof value === 'object' ? 'another object' : typeof value;
 }
 
+// With the flag u, a pair of surrogates is one character, so only a lone one matches.
 function hasLoneSurrogate(text) {
     return typeof text === 'string' && /\p{Surrogate}/u.test(text);
 }
@@ -53,13 +54,13 @@ function toUint64(number) {
 // Returns rounds as a 32-bit integer. WebAssembly would drop the upper bits of a greater number.
 function toUint32(rounds) {
     const isUint32 = rounds === rounds >>> 0;
-    return isUint32 ? rounds : NEITHER;
+    return isUint32 ? rounds : INVALID_NUMBER;
 }
 
 // Returns the numbers by which the module knows a method and rounds. 0 stands for the recommended
 // rounds.
 function toNumbers(method, rounds) {
-    return [METHODS[method] ?? NEITHER, toUint32(rounds)];
+    return [METHODS[method] ?? INVALID_NUMBER, toUint32(rounds)];
 }
 
 // ---- What the module reports
@@ -183,6 +184,7 @@ class Instance {
     get lent() {
         const { words, bytes } = this.#lent;
         const isLending = sizeOf(this.#lent) > 0;
+        // If nothing is lent, the counts are 0, and any aligned address in the memory does.
         const start = isLending ? this.#initial.length : this.#report;
         const end = start + WORD_SIZE * words;
         return [BigInt(start), BigInt(words), BigInt(end), BigInt(bytes)];
@@ -345,10 +347,11 @@ class Calls {
         return { bytes: report.cost, passwordLength, rounds: report.rounds };
     }
 
-    // Returns a setting with a new salt.
+    // Returns a setting with a new salt, which the module makes from three random numbers.
     setting(method, rounds) {
-        const salt = new BigUint64Array(crypto.getRandomValues(new Uint8Array(24)).buffer);
-        const args = [...toNumbers(method, rounds), ...salt];
+        const bytes = crypto.getRandomValues(new Uint8Array(24));
+        const numbers = new BigUint64Array(bytes.buffer);
+        const args = [...toNumbers(method, rounds), ...numbers];
         return this.#callOrThrow('web_setting', ...args, ...this.#module.out).text;
     }
 
@@ -445,6 +448,7 @@ class Calls {
         }
         const { isDone, error, isOutdated, cost } = report;
         const isCurrent = isDone;
+        // No module of this version reports that.
         if (!isCurrent && !isOutdated && !error) throw refusal(null);
         const scheme = this.#module.callForText('web_scheme_name', report.scheme);
         return { error, isOutdated, scheme, cost };

@@ -200,8 +200,8 @@ export class Policy {
     describe(field: Text | null | undefined): Description;
 
     /**
-     * Returns why this policy can't hash a password, or null if it can. Whether the password is
-     * right, only a login says. It hashes nothing, and never throws for a string or bytes.
+     * Returns why this policy can't hash a password, or null if it can. Only a login says whether
+     * the password is right. It hashes nothing, and never throws for a string or bytes.
      */
     passwordProblem(password: Text): PasswordProblem | null;
 }

@@ -80,6 +80,7 @@ function describeSeconds(seconds) {
 function describeMeasuredTime(milliseconds) {
     if (milliseconds < 100) return `less than 0.1${NO_BREAK_SPACE}s`;
     const seconds = milliseconds / 1000;
+    // From 9.95 on, toFixed(1) would give 10.0.
     return seconds < 9.95 ? `${seconds.toFixed(1)}${NO_BREAK_SPACE}s` : describeSeconds(seconds);
 }
 
@@ -130,7 +131,8 @@ function warningOfRounds() {
 }
 
 // Returns the milliseconds that a new hash will take, judging by the measured one. The measured one
-// had 5000 rounds; for scrypt it had 6, and each further round doubles the time.
+// had 5000 rounds; for scrypt it had 6, and each further round doubles the time. For md5crypt there
+// is no estimate, but a warning.
 function timeOfRounds(rounds) {
     const { time } = rates[valueOf('method')];
     return chosenKind === 'scrypt' ? time * 2 ** (rounds - 6) : (time * rounds) / 5000;
@@ -193,6 +195,7 @@ function showProgress() {
     for (const part of progressElements(form)) part.hidden = false;
     showStatus(form, whole ? `Hashing takes ${describeExpectedTime(whole)}.` : 'Hashing.');
     running.timer = setInterval(() => {
+        // The bar isn't full before the hash is there, even if that takes longer than expected.
         bar.value = whole ? Math.min(0.99, (performance.now() - start) / whole) : 0;
     }, 50);
 }
@@ -254,6 +257,7 @@ function extractHash() {
 function describeFlaw(stored) {
     const [, prefix, ...parts] = stored.split('$');
     const hasRounds = prefix !== '1' && parts[0].startsWith('rounds=');
+    // The digest comes after the salt, or in scrypt's hashes after the cost with the salt.
     const digest = parts.slice(hasRounds ? 2 : 1).join('$');
     const whole = DIGEST_LENGTHS[prefix];
     if (digest.length < whole) return `cut: ${digest.length} of ${whole} characters`;
@@ -302,6 +306,7 @@ function sentenceOfCheck({ isDead, isMatch, isOutdated, time }) {
 // Corrects later estimates by the time that the last hash took.
 function correctRate({ error, time }) {
     const whole = expectedTime(running);
+    // A hash of at most 100 ms is too short for a browser's clock.
     if (error || !whole || time <= 100) return;
     rates[running.method].time *= time / whole;
     showEstimate();

@@ -41,6 +41,8 @@ class Pool {
     ask(name, args, memory) {
         return new Promise((resolve, reject) => {
             const message = { name, args };
+            // `usedByOthers` is the most memory that other calls used when this one found too
+            // little, or Infinity if it hasn't run yet.
             this.#waiting.push({ message, memory, usedByOthers: Infinity, resolve, reject });
             this.#distribute();
         });
@@ -202,6 +204,7 @@ async function browserWorkers() {
         worker.onerror = ({ message }) => onEnd(new Error(message || NO_WORKER));
         return worker;
     }
+    // Some browsers don't say how many GiB the device has; 2 are assumed then.
     const memory = () => (navigator.deviceMemory ?? 2) * GIBIBYTE / 4;
     return { cores: navigator.hardwareConcurrency ?? 1, start, memory };
 }

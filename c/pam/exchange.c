@@ -17,6 +17,7 @@ struct pair {
     uintmax_t new;
 };
 
+/* The size of the longest note, with its zero byte. */
 #define NOTE_SIZE sizeof "18446744073709551615 18446744073709551615"
 
 /* Notes in the target of a link which files are exchanged. A link and its target appear at once,

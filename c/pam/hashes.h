@@ -28,8 +28,8 @@ bool find_method(const char *name, uint32_t *method);
  * If not, the message says why. */
 bool allows_new_hashes(const struct mkpasswd_policy *policy, struct message *message);
 
-/* Checks a password against a field; for an unknown name the field is empty. If no password can
- * match the field, this takes as long as a new hash. */
+/* Checks a password against a field; for an unknown name the field is empty. If the field can't be
+ * checked, this takes as long as a new hash. */
 struct check check_password(
     const struct mkpasswd_policy *policy, const char *password, struct mkpasswd_field field);
 

@@ -8,7 +8,7 @@
 #include <unistd.h>
 
 #define TRIES 50
-#define PAUSE_NANOSECONDS 20000000 /* 50 tries take a second */
+#define PAUSE_NANOSECONDS 20000000 /* 20 ms, so 50 tries take a second */
 
 /* Gives the lock file to the owner of the password file. A service of that user can then take the
  * lock even if a service of the superuser was the first to change the file. */
@@ -25,7 +25,7 @@ static int create_lock(const struct place *place)
     const int flags = O_RDWR | O_CREAT | O_EXCL | O_CLOEXEC | O_NOFOLLOW;
     int lock = openat(place->folder, place->lock_name, flags, S_IRUSR | S_IWUSR);
 
-    /* Only the superuser can do this, and nobody else needs to. */
+    /* Only the superuser can give it away, and nobody else needs to. */
     if (lock >= 0)
         (void)give_to_owner(lock, place);
     return lock;

@@ -6,7 +6,7 @@
 
 enum lock_state {
     LOCK_TAKEN,
-    LOCK_HELD,   /* by another process, for longer than a second */
+    LOCK_HELD,   /* by another process, for about a second */
     LOCK_FAILED, /* errno says why */
 };
 

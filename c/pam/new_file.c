@@ -210,7 +210,7 @@ bool make_new_file(const struct place *place, const struct password_file *old,
 
 bool name_new_file(const struct place *place, struct new_file *new)
 {
-    char link[sizeof "/proc/self/fd/" + 3 * sizeof(int)];
+    char link[sizeof "/proc/self/fd/" + 3 * sizeof(int)]; /* a byte has at most 3 digits */
 
     if (new->has_name)
         return true;

@@ -124,8 +124,8 @@ static bool read_arguments(
     return true;
 }
 
-/* Whether the arguments, each of which is valid, fit together: file= is among them, and they allow
- * new hashes. */
+/* Whether the arguments, each of which is valid, fit together: file= is among them, but not with
+ * /etc/shadow, and they allow new hashes. */
 static bool are_valid_together(const pam_handle_t *pam, const struct options *options)
 {
     struct message message;

@@ -7,7 +7,7 @@
 
 enum outcome {
     DONE,
-    LOCK_IS_HELD, /* by another process, for more than a second */
+    LOCK_IS_HELD, /* by another process, for about a second */
     FILE_CHANGED, /* by somebody else, or it has another field for the name */
     FAILED,       /* errno says why */
 };

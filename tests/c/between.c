@@ -1,10 +1,10 @@
-/* Loaded before the C library, it acts as another user, or as another file system, while a program
-   replaces a file. Each time the program is about to exchange PATH with another file, somebody
+/* A library for LD_PRELOAD that acts as another user, or as another file system, while a program
+   replaces a file. Each time the program is about to exchange PATH with another file, the library
    renames a file over PATH: first PATH.1, then PATH.2, and so on, as long as these exist.
 
    NO_EXCHANGE=1   the file system can't exchange files
-   NO_TMPFILE=1    it has no O_TMPFILE
-   NO_LOCKS=1      it has no locks
+   NO_TMPFILE=1    the file system has no O_TMPFILE
+   NO_LOCKS=1      the file system has no locks
    NO_LINKS=1      reading a symbolic link fails
    CHMOD=1         somebody changes PATH's mode before the first exchange
    REMOVED=PATH    somebody removes PATH before the program writes its note of the exchange

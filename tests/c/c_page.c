@@ -3,19 +3,19 @@
  * on standard error, and at last hashes the new password. The status is 0 if she is logged in.
  *
  * Two variables of the environment change the field during the login. FIELDS is a list, separated
- * by blanks: each time that the service has read the field, somebody stores the next one. If
- * AFTER_RENEWAL is set, somebody stores that as soon as the service has stored a new hash. If
- * READ_ONLY is set, no new hash can be stored. */
+ * by blanks: each time that the service has read the field, somebody stores the next one.
+ * AFTER_RENEWAL is the field that somebody stores as soon as the service has stored a new hash. If
+ * a third variable, READ_ONLY, is set, no new hash can be stored. */
 #include <mkpasswd.h>
 #include <stdio.h>
 #include <stdlib.h>
 
-/* Functions of the page. */
+/* Functions that docs/C.md has. */
 bool log_in(const char *name, const char *typed);
 bool hash_new_password(const char *typed, char *hash, const char **sentence);
 void copy_field(const char *stored, char field[MKPASSWD_TEXT_SIZE]);
 
-/* Functions that the page needs. */
+/* Functions that docs/C.md leaves to the service. */
 bool find_field(const char *name, char field[MKPASSWD_TEXT_SIZE]);
 bool replace_field(const char *name, const char *old, const char *hash);
 void log_login(const char *name, const char *what);

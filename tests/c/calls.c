@@ -40,6 +40,7 @@
 #define STACK_LEFT ((size_t)26 * 1024)
 #define LONGEST_ROW (3 * PAGE)
 #define TEXT "text:" /* before the digits of a string */
+#define SIZE_OF_NULL 100
 
 static void *allocated(void *block)
 {
@@ -149,7 +150,8 @@ static void read_row(struct arguments *given, const char *row)
     given->scheme = (uint32_t)number_of(row, "scheme");
     given->password_length = (size_t)number_of(row, "password_length");
     given->has_out = !is_value(value_of(row, "out_size"), "null");
-    given->out_size = given->has_out ? (size_t)number_of(row, "out_size") : 100;
+    /* A null out has a size, too, which the call must ignore. */
+    given->out_size = given->has_out ? (size_t)number_of(row, "out_size") : SIZE_OF_NULL;
 }
 
 /* ---- Calls */
@@ -163,7 +165,7 @@ struct call {
     struct mkpasswd_report *report;
 };
 
-typedef int32_t made_call(const struct call *call);
+typedef int32_t call_maker(const struct call *call);
 
 static struct mkpasswd_password password_of(const struct call *call)
 {
@@ -368,12 +370,15 @@ static int32_t version(const struct call *call)
     return (int32_t)mkpasswd_version();
 }
 
+/* The kind of a row's call. */
 struct kind {
     const char *name;
-    made_call *make;
+    call_maker *make;
     bool has_report, takes_nulls;
 };
 
+/* Each with the function that makes the call, and whether it fills a report and accepts null
+ * pointers. */
 static const struct kind kinds[] = {
     {"login", login, true, true},
     {"login_bytes", login_bytes, true, false},
@@ -510,7 +515,7 @@ __attribute__((noinline)) static void perform(struct job *job)
 
 static pthread_mutex_t lock = PTHREAD_MUTEX_INITIALIZER;
 static char **rows, **lines; /* up to the next row `set` */
-static size_t row_count, next_row, room_for_rows;
+static size_t row_count, next_row, row_capacity;
 
 /* Makes calls until no row is left. */
 static void *run(void *argument)
@@ -576,10 +581,10 @@ static void run_rows(size_t thread_count)
 
 static void keep_row(const char *row)
 {
-    if (row_count == room_for_rows) {
-        room_for_rows += 1024;
-        rows = (char **)allocated(realloc(rows, room_for_rows * sizeof *rows));
-        lines = (char **)allocated(realloc(lines, room_for_rows * sizeof *lines));
+    if (row_count == row_capacity) {
+        row_capacity += 1024;
+        rows = (char **)allocated(realloc(rows, row_capacity * sizeof *rows));
+        lines = (char **)allocated(realloc(lines, row_capacity * sizeof *lines));
     }
     rows[row_count++] = (char *)allocated(strdup(row));
 }

@@ -18,7 +18,7 @@ enum entropy {
 /* The settings for the next calls. */
 static long refused_allocation; /* from 1; 0 for none */
 static enum entropy entropy = ENTROPY_REAL;
-static uint8_t given_entropy[24];
+static uint8_t given_entropy[24]; /* as many bytes as a call draws for a salt */
 
 /* The counts of this thread's call. */
 static __thread int is_counting;

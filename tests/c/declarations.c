@@ -7,7 +7,8 @@ extern struct mkpasswd_policy zeros;
 struct mkpasswd_policy zeros = {0, 0, 0};
 
 #if defined __clang__ && defined __cplusplus && __cplusplus >= 201103L
-extern const uint8_t *bytes; /* these are never used */
+/* Arguments of calls that are never made. */
+extern const uint8_t *bytes;
 extern uint8_t *out;
 extern struct mkpasswd_report *report;
 

@@ -1,4 +1,4 @@
-/* Loaded before the C library, it makes one call of a program fail, and writes a line for each call
+/* A library for LD_PRELOAD that makes one call of a program fail, and writes a line for each call
    to the file FAULT_LOG: its kind, its bytes, its file descriptor (0 for a call without one), and
    whether it failed.
 
@@ -7,6 +7,7 @@
 #define _GNU_SOURCE
 #include <errno.h>
 #include <fcntl.h>
+#include <stdbool.h>
 #include <stdio.h>
 #include <stdlib.h>
 #include <string.h>
@@ -18,59 +19,83 @@ extern void *__libc_malloc(size_t size);
 extern void *__libc_realloc(void *old, size_t size);
 extern void *__libc_calloc(size_t count, size_t size);
 
-static int log_file = -1;
+static unsigned long memory_calls, read_calls, write_calls, random_calls;
+
+/* Returns whether FAULT asks for the failure of the call of this kind with this number. */
+static bool is_asked_for(const char *kind, unsigned long number)
+{
+    const char *fault = getenv("FAULT");
+    size_t length = strlen(kind);
+
+    if (fault == NULL || strncmp(fault, kind, length) != 0 || fault[length] != ' ')
+        return false;
+    return strtoul(fault + length, NULL, 10) == number;
+}
+
+static void log_call(const char *kind, size_t bytes, int file, bool has_failed)
+{
+    static int log_file = -1;
+    const char *path = getenv("FAULT_LOG");
+    const char *end = has_failed ? " failed" : "";
+    char line[64];
+    int size;
+
+    if (path != NULL && log_file < 0)
+        log_file = (int)syscall(SYS_openat, AT_FDCWD, path, O_WRONLY | O_CREAT | O_APPEND, 0600);
+    if (log_file < 0)
+        return;
+    size = snprintf(line, sizeof line, "%s %zu %d%s\n", kind, bytes, file, end);
+    syscall(SYS_write, log_file, line, (size_t)size);
+}
 
 /* Counts and logs a call, and returns whether it must fail. */
-static int fails(const char *kind, unsigned long *calls, size_t bytes, int file)
+static bool fails(const char *kind, unsigned long *calls, size_t bytes, int file)
 {
-    const char *path = getenv("FAULT_LOG"), *fault = getenv("FAULT");
-    size_t length = strlen(kind);
-    int is_it = fault && !strncmp(fault, kind, length) && fault[length] == ' '
-        && strtoul(fault + length, 0, 10) == ++*calls;
-    char line[64];
-    if (path && log_file < 0)
-        log_file = (int)syscall(SYS_openat, AT_FDCWD, path, O_WRONLY | O_CREAT | O_APPEND, 0600);
-    if (log_file >= 0) {
-        int size = snprintf(
-            line, sizeof line, "%s %zu %d%s\n", kind, bytes, file, is_it ? " failed" : "");
-        syscall(SYS_write, log_file, line, (size_t)size);
-    }
-    return is_it;
+    bool must_fail = is_asked_for(kind, ++*calls);
+
+    log_call(kind, bytes, file, must_fail);
+    return must_fail;
+}
+
+static int failed(int error)
+{
+    errno = error;
+    return -1;
+}
+
+static void *without_memory(void)
+{
+    errno = ENOMEM;
+    return NULL;
 }
 
 /* Returns how many bytes a read or write may transfer. */
-static size_t handled(size_t size)
+static size_t transferable(size_t size)
 {
     const char *fault = getenv("FAULT");
-    return fault && !strcmp(fault, "short") && size > 1 ? 1 : size;
-}
+    bool is_short = fault != NULL && strcmp(fault, "short") == 0;
 
-static unsigned long memory_calls, read_calls, write_calls, random_calls;
+    return is_short && size > 1 ? 1 : size;
+}
 
 void *malloc(size_t size)
 {
-    if (fails("memory", &memory_calls, size, 0)) {
-        errno = ENOMEM;
-        return NULL;
-    }
+    if (fails("memory", &memory_calls, size, 0))
+        return without_memory();
     return __libc_malloc(size);
 }
 
 void *realloc(void *old, size_t size)
 {
-    if (fails("memory", &memory_calls, size, 0)) {
-        errno = ENOMEM;
-        return NULL;
-    }
+    if (fails("memory", &memory_calls, size, 0))
+        return without_memory();
     return __libc_realloc(old, size);
 }
 
 void *calloc(size_t count, size_t size)
 {
-    if (fails("memory", &memory_calls, count * size, 0)) {
-        errno = ENOMEM;
-        return NULL;
-    }
+    if (fails("memory", &memory_calls, count * size, 0))
+        return without_memory();
     return __libc_calloc(count, size);
 }
 
@@ -84,20 +109,20 @@ size_t malloc_usable_size(void *block)
 ssize_t read(int file, void *bytes, size_t size)
 {
     if (fails("read", &read_calls, size, file))
-        return errno = EIO, -1;
-    return syscall(SYS_read, file, bytes, handled(size));
+        return failed(EIO);
+    return syscall(SYS_read, file, bytes, transferable(size));
 }
 
 ssize_t write(int file, const void *bytes, size_t size)
 {
     if (fails("write", &write_calls, size, file))
-        return errno = ENOSPC, -1;
-    return syscall(SYS_write, file, bytes, handled(size));
+        return failed(ENOSPC);
+    return syscall(SYS_write, file, bytes, transferable(size));
 }
 
 int getentropy(void *bytes, size_t size)
 {
     if (fails("random", &random_calls, size, 0))
-        return errno = ENOSYS, -1;
+        return failed(ENOSYS);
     return syscall(SYS_getrandom, bytes, size, 0) == (long)size ? 0 : -1;
 }

@@ -4,10 +4,10 @@
 #include <sys/mman.h>
 
 #define PAGE ((size_t)4096)
-#define PATTERN 0xa5 /* fills `out` before a call */
-#define LONGEST_CRYPTED 511
+#define PATTERN 0xa5        /* fills `out` before a call */
+#define LONGEST_CRYPTED 511 /* bytes of a password for libxcrypt */
 
-/* Memory between two inaccessible pages. */
+/* Pages, each between two inaccessible ones. */
 enum place {
     PASSWORD_PAGE,
     FIELD_PAGE,
@@ -17,8 +17,12 @@ enum place {
 
 int LLVMFuzzerTestOneInput(const uint8_t *data, size_t size);
 
-/* The library has no coverage counters, so the methods and errors that occur guide the fuzzer. */
-__attribute__((section("__libfuzzer_extra_counters"))) static uint8_t seen[8 * 32];
+/* The library has no coverage counters, so the methods and errors that occur guide the fuzzer. Some
+ * bits of a method's digit and of an error's number are the place of a counter. */
+#define METHOD_MASK 7
+#define ERROR_MASK 31
+__attribute__((
+    section("__libfuzzer_extra_counters"))) static uint8_t seen[METHOD_MASK + 1][ERROR_MASK + 1];
 static uint8_t *pages[PAGES];
 
 static void must(bool holds)
@@ -47,13 +51,13 @@ static uint8_t *at_end(enum place place, const void *bytes, size_t length)
     return end - length;
 }
 
-/* Returns the place for a string of this size at the end of a page. */
-static char *new_out(size_t room)
+/* Returns an `out` of this size, at the end of a page that is full of PATTERN. */
+static char *new_out(size_t out_size)
 {
     uint8_t *page = page_of(OUT_PAGE);
 
     memset(page, PATTERN, PAGE);
-    return (char *)page + PAGE - room;
+    return (char *)page + PAGE - out_size;
 }
 
 /* Returns a report that no call has filled. */
@@ -79,21 +83,24 @@ static bool checked(bool result, const struct mkpasswd_report *report)
 
 /* Checks that `out` has a string of the reported length, or after an error the token as far as it
  * fits, and that the call wrote no other byte of the page. */
-static void check_out(const struct mkpasswd_report *report, size_t room, const char *token)
+static void check_out(const struct mkpasswd_report *report, size_t out_size, const char *token)
 {
     const uint8_t *page = pages[OUT_PAGE];
-    const char *out = (const char *)page + PAGE - room;
-    size_t length = room == 0 ? 0 : strlen(out);
+    const char *out = (const char *)page + PAGE - out_size;
+    size_t length = out_size == 0 ? 0 : strlen(out);
+    bool has_all_of_token = out_size > strlen(token);
 
     if (report->error == 0)
-        must(length == report->length && length < room);
+        must(length == report->length && length < out_size);
     else
         must(report->length == 0);
-    if (report->error != 0 && room != 0)
-        must(length == (room < 3 ? room - 1 : 2) && memcmp(out, token, length) == 0);
-    for (size_t place = 0; place < PAGE - room; place++)
+    if (report->error != 0 && out_size != 0) {
+        must(length == (has_all_of_token ? strlen(token) : out_size - 1));
+        must(memcmp(out, token, length) == 0);
+    }
+    for (size_t place = 0; place < PAGE - out_size; place++)
         must(page[place] == PATTERN);
-    for (size_t place = length + 1; place < room; place++)
+    for (size_t place = length + 1; place < out_size; place++)
         must((uint8_t)out[place] == PATTERN);
 }
 

@@ -2,10 +2,19 @@
  * policies. The results must agree with libxcrypt's, and with each other. */
 #include "fuzz.h"
 
-#define HEAD ((size_t)5) /* bytes of the input before the password */
 #define LONGEST_INPUT 1600
 #define LONGEST_FIELD 2048
 #define CHEAP 300000 /* a cost that takes little time */
+
+/* The bytes of the input before the password: what choose() makes of each, and their number. */
+enum head {
+    BUDGET,
+    SIZE_AND_POLICY,
+    LENGTH_OF_PASSWORD,
+    LOWER_BYTE_OF_LENGTH,
+    FRONT,
+    HEAD
+};
 
 /* What the fuzzer's input means. */
 struct chosen {
@@ -14,8 +23,8 @@ struct chosen {
     char text[LONGEST_FIELD]; /* the field, as a string */
     struct mkpasswd_policy policy;
     uint64_t budget;
-    size_t room; /* the size of `out` */
-    uint8_t byte;
+    size_t out_size;
+    uint8_t changed_byte; /* of a hash, modulo its length */
 };
 
 static const struct mkpasswd_policy policies[] = {
@@ -38,19 +47,21 @@ static struct mkpasswd_field field_of(const char *text)
     return mkpasswd_field_bytes(at_end(FIELD_PAGE, text, strlen(text)), strlen(text));
 }
 
-/* Reads the input: a budget, the size of `out` and a policy, the password's length in two bytes, a
- * front, the password, and the rest of the field. */
+/* Reads the input: the bytes of its head, the password, and the field after its front. */
 static void choose(struct chosen *chosen, const uint8_t *data, size_t size)
 {
-    size_t length = (data[2] * 256u + data[3]) % (size - HEAD);
-    const char *front = fronts[data[4] % (sizeof fronts / sizeof *fronts)];
-    size_t rest = size - HEAD - length;
+    size_t length = data[LENGTH_OF_PASSWORD] * 256u + data[LOWER_BYTE_OF_LENGTH];
+    const char *front = fronts[data[FRONT] % (sizeof fronts / sizeof *fronts)];
+    uint8_t budget = data[BUDGET], size_and_policy = data[SIZE_AND_POLICY];
+    size_t rest;
 
+    length %= size - HEAD;
+    rest = size - HEAD - length;
     memset(chosen, 0, sizeof *chosen);
-    chosen->byte = data[1];
-    chosen->budget = data[0] & 1 ? CHEAP : data[0] * UINT64_C(1000);
-    chosen->room = data[1] & 1 ? MKPASSWD_TEXT_SIZE : data[1];
-    chosen->policy = policies[data[1] / 2 % (sizeof policies / sizeof *policies)];
+    chosen->changed_byte = size_and_policy;
+    chosen->budget = budget & 1 ? CHEAP : budget * UINT64_C(1000);
+    chosen->out_size = size_and_policy & 1 ? MKPASSWD_TEXT_SIZE : size_and_policy;
+    chosen->policy = policies[size_and_policy / 2 % (sizeof policies / sizeof *policies)];
     chosen->password = mkpasswd_password_bytes(at_end(PASSWORD_PAGE, data + HEAD, length), length);
     memcpy(chosen->text, front, strlen(front));
     memcpy(chosen->text + strlen(front), data + HEAD + length, rest);
@@ -68,9 +79,10 @@ static struct mkpasswd_report bound_of(const struct chosen *chosen, size_t lengt
 
 static bool is_dead(struct mkpasswd_field field)
 {
-    const struct mkpasswd_policy any = {MKPASSWD_MD5CRYPT, 0, UINT64_MAX};
+    /* With the greatest budget, no hash is over it. */
+    const struct mkpasswd_policy weakest = {MKPASSWD_MD5CRYPT, 0, UINT64_MAX};
     struct mkpasswd_report report = unfilled_report();
-    bool is_current = checked(mkpasswd_audit(field, &any, &report), &report);
+    bool is_current = checked(mkpasswd_audit(field, &weakest, &report), &report);
 
     return !is_current && report.error == MKPASSWD_ERROR_DEAD;
 }
@@ -195,9 +207,10 @@ static void log_in(const struct chosen *chosen, const struct mkpasswd_policy *po
 static void check_hash(const struct chosen *chosen, const char *hash, uint64_t cost)
 {
     const char *by_crypt = crypted(chosen->password, chosen->text);
-    const char *end = hash[1] == '7' ? strchr(chosen->text + 3, '$') : NULL;
-    /* For libxcrypt a salt of $7$ extends to the last dollar sign. */
-    bool has_other_salt = end && end != strrchr(chosen->text, '$');
+    /* For libxcrypt a salt of scrypt extends to the last dollar sign, and not to the first one. */
+    bool is_scrypt = hash[1] == '7';
+    const char *end_of_salt = strchr(chosen->text + strlen("$7$"), '$');
+    bool has_other_salt = is_scrypt && end_of_salt && end_of_salt != strrchr(chosen->text, '$');
     struct mkpasswd_report report = unfilled_report();
     char changed[MKPASSWD_TEXT_SIZE];
 
@@ -207,7 +220,7 @@ static void check_hash(const struct chosen *chosen, const char *hash, uint64_t c
     must(report.error == MKPASSWD_ERROR_OVER_BUDGET);
     must(!is_dead(field_of(hash)));
     memcpy(changed, hash, strlen(hash) + 1);
-    changed[chosen->byte % strlen(hash)] ^= 1;
+    changed[chosen->changed_byte % strlen(hash)] ^= 1;
     must(!mkpasswd_verify(chosen->password, field_of(changed), chosen->budget, &report));
 }
 
@@ -215,19 +228,19 @@ static void hash(const struct chosen *chosen)
 {
     const char *token = strncmp(chosen->text, "*0", 2) == 0 ? "*1" : "*0";
     struct mkpasswd_report report = unfilled_report();
-    char *out = new_out(chosen->room), made[MKPASSWD_TEXT_SIZE];
-    bool is_made = checked(
-        mkpasswd_hash(chosen->password, chosen->field, chosen->budget, out, chosen->room, &report),
+    char *out = new_out(chosen->out_size), copy[MKPASSWD_TEXT_SIZE];
+    bool is_hashed = checked(mkpasswd_hash(chosen->password, chosen->field, chosen->budget, out,
+                                 chosen->out_size, &report),
         &report);
 
-    must(is_made == (report.error == 0));
-    check_out(&report, chosen->room, token);
-    seen[(chosen->text[1] & 7) * 32 + (report.error & 31)]++;
-    if (!is_made)
+    must(is_hashed == (report.error == 0));
+    check_out(&report, chosen->out_size, token);
+    seen[chosen->text[1] & METHOD_MASK][report.error & ERROR_MASK]++;
+    if (!is_hashed)
         return;
     must(report.cost <= chosen->budget && report.work.bytes <= report.cost);
-    memcpy(made, out, strlen(out) + 1);
-    check_hash(chosen, made, report.cost);
+    memcpy(copy, out, strlen(out) + 1);
+    check_hash(chosen, copy, report.cost);
 }
 
 static void verify(const struct chosen *chosen)

@@ -15,7 +15,14 @@
 #define MUST(holds) ((holds) ? (void)0 : __builtin_trap())
 #define PART_SIZE 2048
 #define SEPARATOR 0xff
+#define FAILURE "authentication failure; " /* how the log entry of a failed login begins */
+#define WORDS_OF_FAILURE 10 /* two words, six fields, an empty word and the field user= */
 #define BUDGET 300000
+
+/* What the bits of the input's first byte decide. Its value also chooses options and a setting. */
+#define REMOVES_FILE 0x10
+#define CHANGES_PASSWORD 0x20
+#define HAS_MATCHING_FIELD 0x40
 
 /* The parts of the input, each up to a separator. */
 struct input {
@@ -28,7 +35,7 @@ struct input {
     char item[PART_SIZE]; /* a PAM item, such as the remote host */
 };
 
-/* The password file, and the place of ann's field in it. */
+/* The password file, and how many bytes it has before ann's field, in it, and after it. */
 struct content {
     char text[4 * PART_SIZE];
     size_t before;
@@ -42,6 +49,8 @@ static char path[64];
 int LLVMFuzzerTestOneInput(const uint8_t *data, size_t size);
 
 /* ---- PAM */
+
+/* The handle of these functions is a pointer to an int: whether this is a change of password. */
 
 int pam_get_user(pam_handle_t *pam, const char **user, const char *prompt)
 {
@@ -96,12 +105,12 @@ void pam_syslog(const pam_handle_t *pam, int priority, const char *format, ...)
     va_start(arguments, format);
     MUST(vsnprintf(entry, sizeof entry, format, arguments) > 0);
     va_end(arguments);
-    if (strncmp(entry, "authentication failure; ", 24) != 0)
+    if (strncmp(entry, FAILURE, strlen(FAILURE)) != 0)
         return;
     MUST(strchr(entry, '\n') == NULL);
     for (const char *place = entry; *place != '\0'; place++)
         words += *place == ' ';
-    MUST(words == 10); /* two words, six fields, an empty word and the field user= */
+    MUST(words == WORDS_OF_FAILURE);
 }
 
 /* ---- The input */
@@ -131,8 +140,9 @@ static void make_matching_field(uint8_t kind)
         "$1$abcdefgh", "$5$rounds=1000$abcd", "$6$rounds=1000$abcd"};
     char hash[MKPASSWD_TEXT_SIZE];
 
-    if (mkpasswd_hash(mkpasswd_password(input.old_password), mkpasswd_field(settings[kind % 3]),
-            BUDGET, hash, sizeof hash, NULL))
+    if (mkpasswd_hash(mkpasswd_password(input.old_password),
+            mkpasswd_field(settings[kind % (sizeof settings / sizeof *settings)]), BUDGET, hash,
+            sizeof hash, NULL))
         (void)snprintf(input.field, sizeof input.field, "%s", hash);
 }
 
@@ -256,9 +266,10 @@ int LLVMFuzzerTestOneInput(const uint8_t *data, size_t size)
         "rounds=1001", "budget=300000", "budget=1000000"};
     char file[80];
     uint8_t kind = size > 0 ? data[0] : 0;
+    const char *other = others[kind % (sizeof others / sizeof *others)];
     const char *arguments[] = {
-        file, "renew", "rounds=1000", "budget=300000", others[kind % 7], input.argument};
-    int count = 5, is_change = 0;
+        file, "renew", "rounds=1000", "budget=300000", other, input.argument};
+    int count = 5, is_change = 0; /* without the last argument */
 
     if (*path == '\0')
         make_folder();
@@ -266,15 +277,15 @@ int LLVMFuzzerTestOneInput(const uint8_t *data, size_t size)
     cut_into_parts(data, size);
     if (strstr(input.lines_before, "ann:") != NULL)
         return 0;
-    if ((kind & 0x40) != 0)
+    if ((kind & HAS_MATCHING_FIELD) != 0)
         make_matching_field(kind);
     if (*input.argument != '\0')
         count++;
     log_in((pam_handle_t *)&is_change, count, arguments);
-    if ((kind & 0x10) != 0)
+    if ((kind & REMOVES_FILE) != 0)
         log_in_without_file((pam_handle_t *)&is_change, count, arguments);
     is_change = 1;
-    if ((kind & 0x20) != 0)
+    if ((kind & CHANGES_PASSWORD) != 0)
         change_password((pam_handle_t *)&is_change, count, arguments);
     return 0;
 }

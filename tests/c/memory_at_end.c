@@ -1,8 +1,9 @@
-/* Loaded before PAM, it writes all private, writable memory of a service to the file MEMORY before
- * the service calls pam_end. */
+/* A library for LD_PRELOAD that writes all private, writable memory of a service to the file MEMORY
+ * when the service calls pam_end. */
 #define _GNU_SOURCE /* for RTLD_NEXT */
 #include <dlfcn.h>
 #include <fcntl.h>
+#include <stdbool.h>
 #include <stdint.h>
 #include <stdlib.h>
 #include <string.h>
@@ -11,7 +12,8 @@
 
 int pam_end(void *pam, int status);
 
-/* Static, since a block of malloc or a larger stack could overwrite what the test looks for. */
+/* The content of /proc/self/maps. The array is static, since a block of malloc or a larger stack
+ * could overwrite what the test looks for. */
 static char maps[1 << 20];
 
 static void read_maps(void)
@@ -36,14 +38,17 @@ static void write_part(int file, const char *start, const char *end)
     }
 }
 
-/* Writes the memory of a line of /proc/self/maps, such as `7f.. 7f.. rw-p`, if it is private. */
+/* Writes the memory of a line of /proc/self/maps, such as `7f..-7f.. rw-p`, if it is writable and
+ * private. */
 static void write_line(int file, const char *line)
 {
     char *rest;
     uintptr_t start = strtoul(line, &rest, 16);
     uintptr_t end = strtoul(rest + 1, &rest, 16);
+    bool is_private = strncmp(rest, " rw-p", strlen(" rw-p")) == 0;
+    bool has_maps = start <= (uintptr_t)maps && (uintptr_t)maps < end;
 
-    if (strncmp(rest, " rw-p", 5) == 0 && (start > (uintptr_t)maps || end <= (uintptr_t)maps))
+    if (is_private && !has_maps)
         write_part(file, (const char *)start, (const char *)end);
 }
 

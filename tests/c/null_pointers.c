@@ -93,8 +93,8 @@ static void try_null_policies_and_reports(void)
     EXPECT(strcmp(out, "$6$rounds=656000$salt") == 0);
 }
 
-/* A null `out` counts as one of size 0, whatever the size argument says. A compiler that sees the
- * null pointer beside the size may warn, so main gets it from the end of its arguments. */
+/* A null `out` counts as one of size 0, whatever the size argument says. A compiler that sees a
+ * null pointer beside the size may warn, so main takes the one at the end of its arguments. */
 static void try_null_outs(char *null)
 {
     const struct mkpasswd_policy cheap = {MKPASSWD_MD5CRYPT, 0, 0};

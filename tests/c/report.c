@@ -1,6 +1,7 @@
-/* Writes the bytes of four reports, which show a test where each field is: of a hash with N = 64
- * and r = 8, so that each count has a different value; of a limit, which has rounds; of an audit of
- * an outdated hash, which has a scheme, N, r and p; and of an invalid setting. */
+/* Writes the bytes of four reports, in which a test finds each field at its place: the report of a
+ * hash with N = 64 and r = 8, so that each count has a different value; of a limit, which has
+ * rounds; of an audit of an outdated hash, which has a scheme, N, r and p; and of a setting that is
+ * invalid. */
 #include <mkpasswd.h>
 #include <stdio.h>
 

@@ -4,8 +4,8 @@
  * usage: residue CALL TEXT METHOD ROUNDS LENGTH LOCKED
  *
  * CALL is verify, login, hash or new; TEXT is the stored hash or the setting; LENGTH is the
- * password's; with 1 for LOCKED all memory is locked. All that the caller itself holds is in a
- * shared page, which the test ignores. */
+ * password's; with 1 for LOCKED all memory is locked. What this program itself keeps of a password
+ * is in a shared page, which the test ignores. */
 #define _GNU_SOURCE
 #include <mkpasswd.h>
 #include <stdlib.h>
@@ -33,13 +33,14 @@ static uint32_t number_of(const char *digits)
     return (uint32_t)strtoul(digits, NULL, 10);
 }
 
+/* Writes a password of printable characters. With another offset below 90, every byte differs. */
 static void write_password(struct held *held, size_t length, size_t offset)
 {
     for (size_t place = 0; place < length; place++)
         held->password[place] = (uint8_t)('!' + (place * place + place / 7 + offset) % 90);
 }
 
-/* The result doesn't matter: the call has done its work. */
+/* Makes the call. Its result doesn't matter, since the call has done its work. */
 static void make(const struct call *call, struct held *held)
 {
     struct mkpasswd_password password = mkpasswd_password_bytes(
@@ -59,7 +60,7 @@ static void make(const struct call *call, struct held *held)
     (void)result;
 }
 
-/* Waits for a byte of standard input. */
+/* Writes a dot, and waits for a byte of standard input. */
 static int has_stopped(struct held *held)
 {
     return write(1, ".", 1) == 1 && read(0, held->out, 1) == 1;

@@ -1,5 +1,5 @@
-/* What counts the work of the login of docs/C.md: a call that prints how much it did. The compiler
- * reads this first (-include), so that the login needs no change. */
+/* Counts the work of the login of docs/C.md: its call of mkpasswd_login becomes one that prints how
+ * much it did. The compiler reads this header first (-include), so the login needs no change. */
 #ifndef SERVICE_H
 #define SERVICE_H
 
@@ -7,11 +7,11 @@
 #include <mkpasswd.h>
 #include <stdio.h>
 
-/* Functions of the page. */
+/* Functions that docs/C.md has. */
 bool log_in(const char *name, const char *typed);
 void copy_field(const char *stored, char field[MKPASSWD_TEXT_SIZE]);
 
-/* Functions that the page needs. */
+/* Functions that docs/C.md leaves to the service. */
 bool find_field(const char *name, char field[MKPASSWD_TEXT_SIZE]);
 bool replace_field(const char *name, const char *old, const char *hash);
 void log_login(const char *name, const char *what);

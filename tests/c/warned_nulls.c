@@ -1,5 +1,5 @@
 /* Calls of exported functions with a null pointer in each argument that needs an object. A compiler
- * must warn about each marked line. */
+ * must warn about each marked line. The method 6 is sha512crypt, and 145 is MKPASSWD_TEXT_SIZE. */
 #include <mkpasswd.h>
 
 int main(void)

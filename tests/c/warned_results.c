@@ -1,4 +1,5 @@
-/* Calls whose result is ignored. A compiler must warn about each marked line. */
+/* Calls whose result is ignored. A compiler must warn about each marked line. The method 6 is
+ * sha512crypt, and 145 is MKPASSWD_TEXT_SIZE. */
 #include <mkpasswd.h>
 
 static void ignore_the_headers_own(struct mkpasswd_password password, struct mkpasswd_field field)

@@ -20,7 +20,7 @@ from support.process import Changes, Result, run
 
 pytestmark = pytest.mark.needs("root", "chpasswd")
 
-AGED = ":19000:0:99999:7:::"  # the fields after the hash in a shadow file
+AGED = ":19000:0:99999:7:::"  # the fields after the hash in a shadow file, first a date in days
 # The settings that make useradd write the same fields for new accounts.
 AGES = "PASS_MIN_DAYS 0\nPASS_MAX_DAYS 99999\nPASS_WARN_AGE 7\n"
 SECONDS_OF_DAY = 86_400
@@ -43,7 +43,7 @@ BCRYPT_OF_PASSWORD = "$2b$05$abcdefghijklmnopqrstuuWG29KuyeAicPCJODk1zjyGvyQUU2a
 
 
 def today() -> int:
-    """Returns the date as in a shadow file, in days."""
+    """Returns the date as in a shadow file, in days since 1970."""
     return int(time.time()) // SECONDS_OF_DAY
 
 
@@ -95,15 +95,12 @@ class Machine:
         (self.folder / name).write_bytes(content)
 
     def follow(self, mark: str, language: str = "sh", stdin: bytes = b"") -> "Followed":
-        """Follows a recipe, with this system's file in place of /etc/shadow.
-
-        This system is also the one on the disk that is mounted at /mnt.
-        """
+        """Follows a recipe, with this system's file in place of /etc/shadow and /mnt/etc/shadow."""
         block = marked(mark, language)
         commands = SCHEDULE.sub("", block.code)
         shadow = shlex.quote(str(self.shadow))
         commands = re.sub(r" (?:/mnt)?/etc/shadow\b", f" {shadow}", commands)
-        commands = commands.replace(" -R /mnt", "")  # the machine's chpasswd has this option
+        commands = commands.replace(" -R /mnt", "")  # the machine's chpasswd has such an option
         result = run("sh", "-c", commands, stdin=stdin, env=self.environment, cwd=self.folder)
         return Followed(block, result)
 
@@ -190,7 +187,10 @@ def test_a_new_password_unlocks_no_account(machine: Machine, mark: str) -> None:
 
 # A table as Excel in German saves it in UTF-8. The last row's class has a trailing blank.
 SCHOOL = (
-    "\ufefflast;first;login;class\r\n" "Müller;Ann;ann;5a\r\nXu;Bob;bob;5b\r\nSchön;Eve;eve;5a \r\n"
+    "\ufefflast;first;login;class\r\n"
+    "Müller;Ann;ann;5a\r\n"
+    "Xu;Bob;bob;5b\r\n"
+    "Schön;Eve;eve;5a \r\n"
 ).encode()
 
 
@@ -198,7 +198,8 @@ def passwords_in(path: Path) -> dict[str, str]:
     """Returns the passwords in a list by name. Checks the list's heading."""
     heading, *rows = path.read_text(encoding="utf-8-sig").splitlines()
     assert heading == "last;first;name;password", heading
-    return {name: password for _, _, name, password in [row.split(";") for row in rows]}
+    fields = [row.split(";") for row in rows]
+    return {name: password for _last, _first, name, password in fields}
 
 
 def follow_generated_passwords(machine: Machine) -> Followed:
@@ -345,11 +346,17 @@ def test_an_empty_new_password_changes_no_account(machine: Machine) -> None:
     assert machine.entries() == before, followed.lacks("no account has changed")
 
 
-# A password of 169 bytes is one byte too long for the default budget. The last line repeats a
-# name.
-SOME_GOOD_LINES = b"ann:password\nbob:%b\nsecret\neve:password\n:secret\n%b\nann:secret\n" % (
-    b"x" * 169,
-    b"secret" * 11,
+SOME_GOOD_LINES = b"\n".join(
+    [
+        b"ann:password",
+        b"bob:" + b"x" * 169,  # one byte too long for the default budget
+        b"secret",
+        b"eve:password",
+        b":secret",
+        b"secret" * 11,
+        b"ann:secret",  # a repeated name
+        b"",
+    ]
 )
 
 
@@ -371,6 +378,7 @@ def test_good_lines_are_loaded_and_the_others_are_not(
 
 
 def test_other_lines_are_shown_by_number_and_without_passwords(good_lines: Followed) -> None:
+    # Only the first number of a message: some also name an earlier line.
     numbers = re.findall(r"^[^0-9\n]*line (\d+)", good_lines.errors, re.MULTILINE)
     is_complete = sorted(numbers) == ["2", "3", "5", "6", "7"]
     assert is_complete, good_lines.lacks("messages about the lines 2, 3, 5, 6 and 7")
@@ -390,7 +398,13 @@ def test_an_account_of_another_disk_gets_the_password_that_is_typed(machine: Mac
     assert machine.entries()["ann"] == Entry(OUTDATED, AGED), followed.lacks("ann keeps the hash")
 
 
-@pytest.mark.parametrize(("typed", "status"), [(b"password\n", 0), (b"passwort\n", 1)])
+@pytest.mark.parametrize(
+    ("typed", "status"),
+    [
+        pytest.param(b"password\n", 0, id="the password"),
+        pytest.param(b"passwort\n", 1, id="another password"),
+    ],
+)
 def test_a_password_on_another_disk_is_checked(machine: Machine, typed: bytes, status: int) -> None:
     machine.set_accounts({"root": CURRENT})
     followed = machine.follow("another disk, checked", stdin=typed)
@@ -398,8 +412,21 @@ def test_a_password_on_another_disk_is_checked(machine: Machine, typed: bytes, s
 
 
 @pytest.mark.needs("perl")
-@pytest.mark.parametrize("field", [YESCRYPT_OF_PASSWORD, BCRYPT_OF_PASSWORD, CURRENT])
-@pytest.mark.parametrize(("typed", "answer"), [("password", b"yes\n"), ("passwort", b"no\n")])
+@pytest.mark.parametrize(
+    "field",
+    [
+        pytest.param(YESCRYPT_OF_PASSWORD, id="yescrypt"),
+        pytest.param(BCRYPT_OF_PASSWORD, id="bcrypt"),
+        pytest.param(CURRENT, id="sha512crypt"),
+    ],
+)
+@pytest.mark.parametrize(
+    ("typed", "answer"),
+    [
+        pytest.param("password", b"yes\n", id="the password"),
+        pytest.param("passwort", b"no\n", id="another password"),
+    ],
+)
 def test_a_hash_is_checked_by_the_systems_crypt(
     machine: Machine, field: str, typed: str, answer: bytes
 ) -> None:
@@ -499,8 +526,8 @@ def test_the_nightly_job_succeeds_without_passwords(job: Job) -> None:
 
 def test_the_nightly_job_keeps_a_list_that_comes_meanwhile(job: Job) -> None:
     chpasswd = job.folder.parent / "bin/chpasswd"
-    comes = f"echo bob:another > '{job.folder}/passwords'\n"
-    save_command(chpasswd, chpasswd.read_text().replace("exec", f"{comes}exec"))
+    new_list = f"echo bob:another > '{job.folder}/passwords'\n"
+    save_command(chpasswd, chpasswd.read_text().replace("exec", f"{new_list}exec"))
     job.machine.write("passwords", b"ann:password\n")
     ended = job.run()
     assert ended.result.status == 0, ended.lacks("status 0")
@@ -603,14 +630,15 @@ AUDITED = {
     "sam": MALFORMED,
     "tom": YESCRYPT,
 }
-WHICH_NEED_CARE = {
+# The rows of an audit for some of these.
+ROWS_THAT_NEED_CARE = {
     "ann": "ann sha256crypt 1000 outdated",
     "eve": "eve sha256crypt 1000 outdated",
     "amy": "amy no password",
     "sam": "sam malformed above ceiling",
     "zoe": "zoe sha512crypt 999999999 over budget",
 }
-WHICH_ARE_WELL = {
+ROWS_THAT_NEED_NONE = {
     "kim": "kim sha512crypt 656000 current",
     "tom": "tom yescrypt unknown",
 }
@@ -624,7 +652,7 @@ def lines_of_accounts(followed: Followed) -> set[str]:
 def test_an_audit_has_a_row_for_each_account(machine: Machine) -> None:
     machine.set_accounts(AUDITED)
     followed = machine.follow("audits")
-    expected = {*WHICH_NEED_CARE.values(), *WHICH_ARE_WELL.values()}
+    expected = {*ROWS_THAT_NEED_CARE.values(), *ROWS_THAT_NEED_NONE.values()}
     absent = expected - lines_of_accounts(followed)
     assert not absent, followed.lacks(f"also these lines: {sorted(absent)}")
 
@@ -632,7 +660,7 @@ def test_an_audit_has_a_row_for_each_account(machine: Machine) -> None:
 def test_cron_mails_the_accounts_that_need_care_and_no_others(machine: Machine) -> None:
     machine.set_accounts(AUDITED)
     followed = machine.follow("audit by cron", "text")
-    expected = set(WHICH_NEED_CARE.values())
+    expected = set(ROWS_THAT_NEED_CARE.values())
     assert lines_of_accounts(followed) == expected, followed.lacks(f"{sorted(expected)}")
 
 
@@ -650,7 +678,11 @@ PAGES_FOR_ALL = 8  # enough for all files that a recipe writes
 USERS = [f"user{number}" for number in range(1, 61)]
 # $0 is the size of the disk, $1 the recipe. Prints the file that the recipe makes for a service.
 ON_SMALL_DISK = """\
-mount -t tmpfs -o size=$0k,mode=755 none full && cd full && ln -s ../passwords ../list . || exit
+set -e
+mount -t tmpfs -o size=$0k,mode=755 none full
+cd full
+ln -s ../passwords ../list .
+set +e
 sh -c "$1"
 cat at.passwords 2> /dev/null
 """
@@ -713,13 +745,9 @@ def follow_on_small_disk(machine: Machine, recipe: Recipe, pages: int) -> OnSmal
     machine.write("passwords", lines)
     machine.write("list", lines)
     (machine.folder / "full").mkdir()
-    result = run(
-        *("unshare", "--mount", "sh", "-c", ON_SMALL_DISK),
-        KIB_OF_PAGE * pages,
-        recipe.commands(machine.shadow),
-        env=machine.environment,
-        cwd=machine.folder,
-    )
+    in_namespace = ("unshare", "--mount", "sh", "-c", ON_SMALL_DISK)
+    words = (KIB_OF_PAGE * pages, recipe.commands(machine.shadow))
+    result = run(*in_namespace, *words, env=machine.environment, cwd=machine.folder)
     files = machine.shadow.read_text(encoding="ascii") + result.stdout.decode()
     fields = re.findall(r"^user\d+:([^:\n]*)", files, re.MULTILINE)
     return OnSmallDisk(recipe, result, fields)
@@ -730,13 +758,13 @@ def follow_on_small_disk(machine: Machine, recipe: Recipe, pages: int) -> OnSmal
 @pytest.mark.parametrize("recipe", RECIPES, ids=str)
 def test_a_full_disk_leaves_complete_hashes(machine: Machine, recipe: Recipe, pages: int) -> None:
     followed = follow_on_small_disk(machine, recipe, pages)
-    odd = [field for field in followed.new if not is_hash_of(field, "password")]
-    assert odd == [], followed.lacks("each field is the old hash, or a complete new one")
+    incomplete = [field for field in followed.new if not is_hash_of(field, "password")]
+    assert incomplete == [], followed.lacks("each field is the old hash, or a complete new one")
 
 
 @pytest.mark.needs("namespaces")
 @pytest.mark.parametrize("recipe", RECIPES, ids=str)
-def test_a_small_disk_with_enough_room_gets_all_hashes(machine: Machine, recipe: Recipe) -> None:
+def test_a_small_disk_with_enough_space_gets_all_hashes(machine: Machine, recipe: Recipe) -> None:
     followed = follow_on_small_disk(machine, recipe, PAGES_FOR_ALL)
-    whole = [field for field in followed.new if is_hash_of(field, "password")]
-    assert len(whole) == len(USERS), followed.lacks("a new hash for each user")
+    complete = [field for field in followed.new if is_hash_of(field, "password")]
+    assert len(complete) == len(USERS), followed.lacks("a new hash for each user")

@@ -9,6 +9,7 @@ import os
 import re
 from collections.abc import Iterator
 from contextlib import AbstractContextManager
+from dataclasses import dataclass
 from pathlib import Path
 from typing import Callable
 
@@ -29,21 +30,27 @@ METHOD_NAMES = [method.name for method in METHODS]
 # ---- The completions, and the shells that read them
 
 
-@pytest.fixture(scope="module", name="written")
-def fixture_written(program: Path, tmp_path_factory: pytest.TempPathFactory) -> tuple[Path, Result]:
+@dataclass(frozen=True)
+class Written:
     """A folder with the completions, and the result of the command that wrote them."""
+
+    folder: Path
+    result: Result
+
+
+@pytest.fixture(scope="module", name="written")
+def fixture_written(program: Path, tmp_path_factory: pytest.TempPathFactory) -> Written:
     folder = tmp_path_factory.mktemp("completions")
     result = run(ROOT / "tools/completions", program, ROOT / "bin/pwhash", folder)
-    return folder, result
+    return Written(folder, result)
 
 
 @pytest.fixture(scope="module", name="surroundings")
 def fixture_surroundings(
-    written: tuple[Path, Result], commands: Path, tmp_path_factory: pytest.TempPathFactory
+    written: Written, commands: Path, tmp_path_factory: pytest.TempPathFactory
 ) -> Surroundings:
     """The folder and environment of the shells."""
-    completions, result = written
-    result.required()
+    written.result.required()
     scratch = tmp_path_factory.mktemp("shells")
     folder = scratch / "folder"
     folder.mkdir()
@@ -51,7 +58,7 @@ def fixture_surroundings(
         (folder / name).touch()
     installed = scratch / "share/bash-completion/completions"
     installed.mkdir(parents=True)
-    for path in completions.glob("*.bash"):
+    for path in written.folder.glob("*.bash"):
         (installed / path.name).symlink_to(path)
     environment = {
         "HOME": str(scratch),
@@ -62,11 +69,11 @@ def fixture_surroundings(
         "INPUTRC": None,
         "XDG_DATA_HOME": None,
     }
-    return Surroundings(completions, folder, scratch, environment)
+    return Surroundings(written.folder, folder, scratch, environment)
 
 
 def in_shell(start: Start, name: str, *needed: str) -> object:
-    """Returns a shell as a parameter for tests, which they skip if something needed is missing."""
+    """Returns a shell as a parameter. Its tests are skipped if something is missing."""
     return pytest.param(start, id=name, marks=pytest.mark.needs("python3-pexpect", *needed))
 
 
@@ -102,8 +109,8 @@ def assert_offered(shell: Shell, line: str, expected: list[str]) -> None:
     assert found == sorted(expected), message
 
 
-def test_completions_are_written_and_nothing_is_printed(written: tuple[Path, Result]) -> None:
-    assert_result(written[1])
+def test_completions_are_written_and_nothing_is_printed(written: Written) -> None:
+    assert_result(written.result)
 
 
 # ---- Options
@@ -112,6 +119,7 @@ def test_completions_are_written_and_nothing_is_printed(written: tuple[Path, Res
 def option_rows(program: Path) -> list[str]:
     """Returns the rows of mkpasswd's help, each with all names of an option."""
     text = run(program, "--help").required().stdout.decode()
+    # Two blanks, or the end of the line, follow the names.
     return re.findall(r"^ +(-.*?)(?:  |$)", text, re.MULTILINE)
 
 
@@ -145,7 +153,7 @@ def test_no_file_is_a_value_of_an_option(shell: Shell, program: Path, form: str)
     assert not problems, "expected no words\n" + "\n".join(problems)
 
 
-# What is typed before Tab, and the words that a shell offers.
+# For what is typed before Tab, the words that a shell offers.
 RESTS_OF_OPTIONS = {
     "mkpasswd --check --meth": ["--method"],
     "mkpasswd.proved --check --reh": ["--rehash"],

@@ -70,9 +70,8 @@ def fixture_play(environment: Changes, tmp_path_factory: pytest.TempPathFactory)
     def play(place: Place) -> Played:
         of_document = examples_of(place.path)
         places = [example.place for example in of_document]
-        assert (
-            place in places
-        ), f"{place}: this command is in no `console` block, so nothing runs it"
+        problem = f"{place}: this command isn't in a `console` block, so nothing runs it"
+        assert place in places, problem
         if place.path not in players:
             folder = tmp_path_factory.mktemp("examples")
             players[place.path] = Player(of_document, folder, environment)
@@ -107,6 +106,7 @@ def test_a_shell_parses_a_block(block: Block) -> None:
 
 def targets_named(path: Path) -> dict[str, Place]:
     """Returns the targets of make that a document names, with the line of the first mention."""
+    # A command in backquotes or at the start of a line. Variables may precede the target.
     mention = re.compile(r"(?:`|^)make (?:\w+=[^\s`]+ )*([a-z]\w*)")
     places: dict[str, Place] = {}
     for number, line in enumerate(lines_of(path), start=1):
@@ -125,7 +125,9 @@ def mentions() -> Iterator[object]:
 
 def targets_in_makefile() -> set[str]:
     """Returns the targets of the Makefile's rules."""
-    rules = re.findall(r"^([^\s:=#][^:=#\n]*):(?!=)", "\n".join(lines_of(ROOT / "Makefile")), re.M)
+    text = "\n".join(lines_of(ROOT / "Makefile"))
+    # A rule begins with its targets and a colon. `:=` would set a variable.
+    rules = re.findall(r"^([^\s:=#][^:=#\n]*):(?!=)", text, re.MULTILINE)
     return {target for rule in rules for target in rule.split()}
 
 
@@ -152,7 +154,7 @@ class CostRow:
     def libxcrypt_hash(self) -> bytes:
         """libxcrypt's hash of the password, with a salt as long as a drawn one."""
         words = self.options.split()
-        values = dict(zip(words[::2], words[1::2]))
+        values = dict(zip(words[::2], words[1::2]))  # every second word is an option
         rounds = int(values["-R"]) if "-R" in values else None
         setting = setting_of_options(BY_NAME[values["-m"]], rounds, salt=None)
         return crypt(PASSWORD, setting.text)
@@ -163,13 +165,14 @@ PASSWORD = b"password"
 
 def cost_rows() -> list[CostRow]:
     """Returns those rows of tables in all documents that have options with -m and a cost."""
-    row = re.compile(r"\|.*?`(-m [^`]*)`[^|]*\| (\d+) \|.*")
+    # Options in backquotes, and the cost alone in the next column.
+    row = re.compile(r"\|.*?`(?P<options>-m [^`]*)`[^|]*\| (?P<cost>\d+) \|.*")
     rows = []
     for path in documents():
         for number, line in enumerate(lines_of(path), start=1):
             match = row.fullmatch(line)
             if match is not None:
-                rows.append(CostRow(Place(path, number), match[1], int(match[2])))
+                rows.append(CostRow(Place(path, number), match["options"], int(match["cost"])))
     return rows
 
 
@@ -200,6 +203,7 @@ def test_a_budget_of_the_cost_admits_a_new_hash(program: Path, row: CostRow) -> 
 @pytest.mark.parametrize("row", cost_rows(), ids=str)
 def test_a_budget_of_the_cost_admits_a_check(program: Path, row: CostRow) -> None:
     line = b"x:%b:%b\n" % (row.libxcrypt_hash, PASSWORD)
-    result = run(program, "--check", f"--budget=+00{row.cost}", stdin=line)
+    budget = f"--budget=+00{row.cost}"  # a number may have a plus sign, and zeros in front
+    result = run(program, "--check", budget, stdin=line)
     is_right = (result.status, result.stdout, result.stderr) == (0, b"x:ok\n", b"")
     assert is_right, expected_at(row, f"x:ok for the line {printable(line)}", result)

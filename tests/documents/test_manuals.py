@@ -74,7 +74,9 @@ def purposes_in(text: str) -> dict[str, str]:
 
 def options_in_source(path: Path) -> list[str]:
     """Returns the long names of the options in a manual's source."""
-    items = re.findall(r"^\.It Fl (?:\w , Fl )?-([a-z][\w-]*)", "\n".join(lines_of(path)), re.M)
+    source = "\n".join(lines_of(path))
+    # mdoc's macro for an item, perhaps with the option's short name first.
+    items = re.findall(r"^\.It Fl (?:\w , Fl )?-([a-z][\w-]*)", source, re.MULTILINE)
     return [f"--{name}" for name in items]
 
 
@@ -121,6 +123,7 @@ def test_the_manual_of_mkpasswd_describes_an_option_in_the_words_of_its_help(
 def test_the_manual_of_pwhash_has_the_options_of_each_help(words: list[str]) -> None:
     in_help = set(re.findall(r"(?<!\S)--[a-z][\w-]*", help_of(ROOT / "bin/pwhash", *words)))
     text = rendered_manual(PWHASH)
+    # An item of the manual may begin with the option's short name.
     in_manual = set(re.findall(r"^ *(?:-\w, )?(--[a-z][\w-]*)", text, re.MULTILINE))
     absent = sorted(in_help - in_manual)
     assert in_help and not absent, f"{name_of(PWHASH)}: expected: {absent or 'options in the help'}"
@@ -129,8 +132,8 @@ def test_the_manual_of_pwhash_has_the_options_of_each_help(words: list[str]) -> 
 # ---- Methods
 
 
-def written(method: Method) -> str:
-    """Returns the name of a method, as part of a test's name."""
+def title_of(method: Method) -> str:
+    """Returns the name of a method, for the names of tests."""
     return method.name
 
 
@@ -143,7 +146,7 @@ def row_of(method: Method) -> re.Match[str] | None:
 
 
 @pytest.mark.needs("mandoc")
-@pytest.mark.parametrize("method", METHODS, ids=written)
+@pytest.mark.parametrize("method", METHODS, ids=title_of)
 def test_the_manual_has_the_prefix_and_the_salts_of_a_method(method: Method) -> None:
     expected = f"{method.prefix.decode()}, 1 to {method.longest_salt}, {method.drawn_salt}"
     assert row_of(method), f"{name_of(MKPASSWD)}: expected: {method.name} with {expected}"
@@ -177,7 +180,8 @@ def test_the_short_name_of_a_method_in_the_manual_works(program: Path, name: str
 def test_the_manual_lists_in_order(heading: str, expected: list[str]) -> None:
     _, _, section = rendered_manual(MKPASSWD).partition(f"\n{heading}\n")
     wanted = {" ".join(text.split()) for text in expected}
-    heads = [" ".join(head.split()) for head in re.findall(r"^(\S.*?) {2,}", section, re.MULTILINE)]
-    found = [head for head in heads if head in wanted]
+    # The first column of a table, before two blanks or more.
+    cells = re.findall(r"^(\S.*?) {2,}", section, re.MULTILINE)
+    found = [cell for cell in (" ".join(cell.split()) for cell in cells) if cell in wanted]
     column = f"{name_of(MKPASSWD)}: the first column of {heading}"
     assert found == expected, f"{column}\nexpected: {expected}\nfound: {found}"

@@ -1,7 +1,6 @@
-"""A block under `<!-- tested: NAME -->`: a mutant.
+"""The mutant in a block under `<!-- tested: mutant -->`.
 
-test_administration.py tests the recipes for administrators, and the tests of a service test its
-recipe.
+test_administration.py tests the blocks for administrators, and tests/services those for services.
 """
 from __future__ import annotations
 
@@ -12,7 +11,7 @@ from support.documents import marked
 from support.process import run
 
 
-def test_the_documents_mutant_is_one_that_the_gate_refuses() -> None:
+def test_the_mutant_of_the_document_is_one_that_the_gate_refuses() -> None:
     block = marked("mutant", "sh")
     edit = ROOT / "crates/crypt_core/must-fail/refused-at-the-budget.edit"
     change = re.search(r"^new: (.*)", edit.read_text(encoding="utf-8"), re.MULTILINE)

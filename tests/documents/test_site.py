@@ -76,12 +76,14 @@ def test_no_page_has_checksums_of_archives_that_contain_the_pages(site: Site) ->
     evidence = (ROOT / "docs/EVIDENCE.md").read_text(encoding="utf-8")
     sums = re.findall(r"`([0-9a-f]{16,64})`", evidence)
     pages = {page.name: page.read_text(encoding="utf-8") for page in site.pages()}
-    assert [(name, value) for value in sums for name, page in pages.items() if value in page] == []
+    found = [(name, value) for value in sums for name, page in pages.items() if value in page]
+    assert found == []
 
 
 def heading_of(page: Path) -> str:
     """Returns the first heading of a page, without tags."""
-    return next("".join(each.itertext()) for each in elements_of(page) if each.tag == "h1")
+    headings = (element for element in elements_of(page) if element.tag == "h1")
+    return "".join(next(headings).itertext())
 
 
 @pytest.mark.parametrize("document", documents(), ids=lambda document: str(document.name))
@@ -104,7 +106,7 @@ class Link:
 
     @property
     def is_elsewhere(self) -> bool:
-        """Whether it leaves the site."""
+        """Whether the link leaves the site."""
         return re.match("https?:", self.target) is not None
 
 
@@ -187,7 +189,7 @@ class Tree:
     folder: Path
 
     def change(self, path: str, old: str, new: str) -> None:
-        """Changes a piece of a file."""
+        """Replaces a piece of a file, wherever it occurs."""
         file = self.folder / path
         text = file.read_text(encoding="utf-8")
         assert old in text, f"expected {old} in {path}\n{text}"

@@ -1,6 +1,6 @@
-"""The specification of a small tree: it has everything that a call depends on.
+"""tools/specification over a small tree: the page has everything that a call depends on.
 
-An error names the place that tools/specification can't handle.
+An error names the place that the tool can't handle.
 """
 from __future__ import annotations
 
@@ -12,6 +12,7 @@ import pytest
 from support import ROOT
 from support.process import Result, assert_result, run
 
+# The page without what the tool fills in.
 FRAME = """# Adding
 
 Some words.
@@ -110,6 +111,7 @@ FILES = {
     "crates/low/specs/Limits.antt": LIMITS,
 }
 
+# The page that the tool must print.
 PAGE = """# Adding
 
 Some words.
@@ -203,7 +205,7 @@ class Tree:
     folder: Path
 
     def change(self, path: str, old: str, new: str) -> None:
-        """Changes a piece of a file that occurs once."""
+        """Replaces a piece of a file, which must occur once."""
         file = self.folder / path
         text = file.read_text(encoding="utf-8")
         assert text.count(old) == 1, f"expected one {old} in {path}\n{text}"

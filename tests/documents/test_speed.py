@@ -1,8 +1,8 @@
 """docs/SPEED.md: the statistics of its ratios, and how tools/bench writes it.
 
-The bootstrap's intervals can be computed exactly: the median of a resample of n different numbers
-is at most the k-th smallest of them if more than half of the n draws are, and each draw is with
-probability k / n.
+The bootstrap's intervals can be computed exactly. It draws n times from n different numbers. The
+median of the draws is at most the k-th smallest number if more than half of the draws are among the
+k smallest numbers, and each draw is one of these with probability k / n.
 """
 from __future__ import annotations
 
@@ -31,7 +31,17 @@ from support import ROOT
 from support.process import Result, run, started
 from support.pwhash_runs import wait_for
 
-CONDITIONS = Conditions("2026-11-30", "c0ffee", "Some(R) CPU @ 2.50GHz", 2.5, 4, "6.18.44", {})
+CONDITIONS = Conditions(
+    date="2026-11-30",
+    crates="c0ffee",
+    processor="Some(R) CPU @ 2.50GHz",
+    ghz=2.5,
+    cores=4,
+    kernel="6.18.44",
+    versions={},
+)
+PAIRS = 25  # of measurements, for one ratio
+INTERRUPTED = 130  # the status of tools/bench after a signal
 SECONDS_TO_END = 60
 
 
@@ -54,13 +64,13 @@ SECONDS_TO_END = 60
         pytest.param([1.5, 1.5, 1.5], 0.99, 1.5, 1.5, id="the same number three times"),
     ],
 )
-def test_interval_of_a_median(
+def test_an_interval_of_a_median_is_exact(
     numbers: list[float], level: float, lower: float, upper: float
 ) -> None:
     assert bootstrap_interval(list(numbers), level) == Interval(lower, upper)
 
 
-def test_ratio_is_the_median_of_pairs() -> None:
+def test_a_ratio_is_the_median_of_pairs() -> None:
     ratio = ratio_of([1.3, 1.1, 1.2, 1.0, 9.0])
     assert (ratio.median, ratio.pairs) == (1.2, 5)
 
@@ -83,8 +93,10 @@ def test_ratio_is_the_median_of_pairs() -> None:
         pytest.param(186.26, 184.06, 188.0, "186 (182 to 190)", id="a very large ratio"),
     ],
 )
-def test_ratio_on_the_page(median: float, lower: float, upper: float, text: str) -> None:
-    assert format_ratio(Ratio(median, Interval(lower, upper), 25)) == text
+def test_a_ratio_has_a_form_on_the_page(
+    median: float, lower: float, upper: float, text: str
+) -> None:
+    assert format_ratio(Ratio(median, Interval(lower, upper), PAIRS)) == text
 
 
 # ---- Two runs
@@ -97,31 +109,38 @@ def results_of(part: Part, *rows: Row) -> Results:
 
 def ratio_between(lower: float, upper: float) -> Comparison:
     """Returns a comparison whose ratio has this interval."""
-    return Comparison("md5crypt", "libxcrypt", Ratio(lower, Interval(lower, upper), 25))
+    return Comparison("md5crypt", "libxcrypt", Ratio(lower, Interval(lower, upper), PAIRS))
 
 
 @pytest.mark.parametrize(
-    ("part", "before", "after", "do_disagree"),
+    ("before", "after", "do_disagree"),
     [
-        (Part.RATIOS, ratio_between(1.1, 1.2), ratio_between(1.19, 1.3), False),
-        (Part.RATIOS, ratio_between(1.1, 1.2), ratio_between(1.23, 1.3), True),
-        (Part.RATIOS, ratio_between(1.1, 1.2), ratio_between(1.0, 1.07), True),
-        (Part.INSTRUCTIONS, Count("a round", "x", 4000), Count("a round", "x", 4004), False),
-        (Part.INSTRUCTIONS, Count("a round", "x", 4000), Count("a round", "x", 4005), True),
-        (Part.INSTRUCTIONS, Count("a round", "x", 4000), Count("a round", "y", 4005), False),
-    ],
-    ids=[
-        "intervals that overlap",
-        "a greater ratio",
-        "a smaller ratio",
-        "counts within a thousandth",
-        "counts further apart",
-        "counts of two programs",
+        pytest.param(
+            ratio_between(1.1, 1.2), ratio_between(1.19, 1.3), False, id="intervals that overlap"
+        ),
+        pytest.param(ratio_between(1.1, 1.2), ratio_between(1.23, 1.3), True, id="a greater ratio"),
+        pytest.param(ratio_between(1.1, 1.2), ratio_between(1.0, 1.07), True, id="a smaller ratio"),
     ],
 )
-def test_two_runs_disagree(part: Part, before: Row, after: Row, do_disagree: bool) -> None:
-    found = list(disagreements(results_of(part, before), results_of(part, after)))
-    assert bool(found) is do_disagree, found
+def test_two_runs_disagree_about_a_ratio(
+    before: Comparison, after: Comparison, do_disagree: bool
+) -> None:
+    found = list(disagreements(results_of(Part.RATIOS, before), results_of(Part.RATIOS, after)))
+    assert (found != []) is do_disagree, found
+
+
+@pytest.mark.parametrize(
+    ("after", "do_disagree"),
+    [
+        pytest.param(Count("a round", "x", 4004), False, id="counts within a thousandth"),
+        pytest.param(Count("a round", "x", 4005), True, id="counts further apart"),
+        pytest.param(Count("a round", "y", 4005), False, id="counts of two programs"),
+    ],
+)
+def test_two_runs_disagree_about_a_count(after: Count, do_disagree: bool) -> None:
+    before = results_of(Part.INSTRUCTIONS, Count("a round", "x", 4000))
+    found = list(disagreements(before, results_of(Part.INSTRUCTIONS, after)))
+    assert (found != []) is do_disagree, found
 
 
 def test_the_command_compares_with_another_run(tmp_path: Path) -> None:
@@ -130,8 +149,9 @@ def test_the_command_compares_with_another_run(tmp_path: Path) -> None:
     other.write_text(text, encoding="utf-8")
     result = run(ROOT / "tools/bench", "--compare", other).required()
     assert result.stdout.endswith(b" rows are in both runs; 0 of them disagree\n"), result
-    first_count = re.compile(r'"instructions":(\d)')
-    other.write_text(first_count.sub(r'"instructions":1\1', text, count=1), encoding="utf-8")
+    # With another digit in front, the first count is more than ten times as large.
+    changed = re.sub(r'"instructions":(\d)', r'"instructions":1\1', text, count=1)
+    other.write_text(changed, encoding="utf-8")
     result = run(ROOT / "tools/bench", "--compare", other)
     assert result.status == 1 and b"; 1 of them disagree\n" in result.stdout, result
 
@@ -215,5 +235,5 @@ def test_an_interrupted_run_writes_nothing(tree: Path, tmp_path: Path, number: i
     with started(*command, env=environment, stderr=subprocess.DEVNULL) as process:
         wait_for(has_begun.exists)
         process.send_signal(number)
-        assert process.wait(timeout=SECONDS_TO_END) == 130
+        assert process.wait(timeout=SECONDS_TO_END) == INTERRUPTED
     assert changed_files(tree) == ""

@@ -54,10 +54,11 @@ LENGTHS_OF_BUDGETS = (0, 8, 64, 65, 169, 1023, 1024)
 TOO_LONG = (LONGEST_PASSWORD + 1, GREATEST_32 + 1, GREATEST_32 + 9, GREATEST)
 LENGTHS = (0, 64, 169, LONGEST_PASSWORD, *TOO_LONG)
 RANDOM_BYTES = System(random_bytes=bytes(range(1, 25)))
+SHA512CRYPT = 6  # the number of the method
 
 
 def budgets_of(policy: Policy) -> list[int]:
-    """Returns 0, which means none, the least and the greatest budget, and some around costs."""
+    """Returns 0 for none, the least and the greatest budget, and some around costs."""
     setting = policy.setting
     costs = [cost(setting, length) for length in LENGTHS_OF_BUDGETS]
     near_costs = [price + step for price in costs for step in (-1, 0, 1)]
@@ -65,7 +66,7 @@ def budgets_of(policy: Policy) -> list[int]:
 
 
 def calls_by(policy: Policy, budgets: list[int]) -> list[Call]:
-    """Returns both calls with each budget and each length."""
+    """Returns mkpasswd_limit and mkpasswd_rounds with each budget and each length."""
     calls: list[Call] = []
     for budget in budgets:
         calls.append(Limit(policy.method, policy.rounds, budget))
@@ -162,11 +163,12 @@ def test_a_hash_with_the_reported_rounds_is_made_and_accepted_within_the_limit(
 ) -> None:
     """For fewer rounds, docs/FORMATS.md says, the limit must be given as the budget."""
     password = b"a" * length
-    driver.assert_answer(Rounds(length, 6), result=1, rounds=rounds)
-    limit = driver.answers([Limit(6)])[0].cost
-    new = New(password, 6, rounds, limit)
+    driver.assert_answer(Rounds(length, SHA512CRYPT), result=1, rounds=rounds)
+    limit = driver.answers([Limit(SHA512CRYPT)])[0].cost
+    new = New(password, SHA512CRYPT, rounds, limit)
     new_hash = new.expected(RANDOM_BYTES).out.strip('"').encode()
-    calls: list[Call] = [new, Login(password, new_hash, 6, 0, limit)]
+    calls: list[Call] = [new, Login(password, new_hash, SHA512CRYPT, 0, limit)]
     answers = driver.assert_matches_model(calls, RANDOM_BYTES, threads=2)
     assert [(answer.result, answer.error) for answer in answers] == [(1, 0), (1, 0)]
-    assert answers[1].outdated == int(rounds != 656_000)
+    is_outdated = rounds < 656_000
+    assert answers[1].outdated == int(is_outdated)

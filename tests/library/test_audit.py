@@ -22,6 +22,7 @@ from support.stored_fields import (
     Field,
 )
 
+NUMBER_OF_SHA512CRYPT = 6
 AUDITED_BY = (*POLICIES, INVALID_POLICIES[0], INVALID_POLICIES[-1])
 
 
@@ -43,8 +44,8 @@ def dummy_hash(text: bytes) -> bytes:
 
 # With an N of 2^15 or more, a login by a cheaper policy refuses every password.
 AT_THE_LIMITS = [
-    StoredHash("at the own budget", dummy_hash(recommended_setting(SHA512CRYPT, 0).text)),
-    StoredHash("above the own budget", dummy_hash(recommended_setting(SHA512CRYPT, 656_001).text)),
+    StoredHash("the recommended rounds", dummy_hash(recommended_setting(SHA512CRYPT, 0).text)),
+    StoredHash("one round more", dummy_hash(recommended_setting(SHA512CRYPT, 656_001).text)),
     *(
         StoredHash(
             f"scrypt with an N of 2^{log_n}",
@@ -65,14 +66,15 @@ def alterations(text: bytes) -> list[bytes]:
     front, digest = text.rsplit(b"$", 1)
     last = ALPHABET.index(digest[-1:])
     fields = [text, text + b".", text + b"$", text + b"$extra", text[:-1] + b"~"]
-    fields.append(front + b"aaaaaaaaaaaaaaaaa$" + digest)
+    fields.append(front + b"a" * 17 + b"$" + digest)
     for cut in (1, 2, 3):
         fields += [text[:-cut], text[: -cut - len(digest)]]
-    for bit in range(6):
-        other = last ^ 1 << bit
+    for bit in range(6):  # of the last character
+        other = last ^ (1 << bit)
         fields.append(text[:-1] + ALPHABET[other : other + 1])
+    prefix_and_rounds = re.compile(rb"\A(\$[56]\$)(rounds=\d+\$)?")
     for rounds in (b"10", b"5000", b"05000", b"999999999", b"1000000000"):
-        fields.append(re.sub(rb"\A(\$[56]\$)(rounds=\d+\$)?", rb"\g<1>rounds=%b$" % rounds, text))
+        fields.append(prefix_and_rounds.sub(rb"\g<1>rounds=%b$" % rounds, text))
     return fields
 
 
@@ -92,7 +94,7 @@ def cost_of(field: bytes) -> int:
 def audits_by_budgets(fields: list[bytes]) -> list[Audit]:
     """Returns audits with budgets around the cost."""
     return [
-        Audit(field, 6, 0, budget)
+        Audit(field, NUMBER_OF_SHA512CRYPT, 0, budget)
         for field in fields
         for budget in (1, cost_of(field) - 1, cost_of(field), GREATEST)
     ]
@@ -119,14 +121,16 @@ def test_a_hash_and_its_alterations_are_audited_by_budgets(
 
 @pytest.mark.parametrize("stored", HASHES, ids=str)
 def test_the_inline_calls_report_the_same(driver: Driver, stored: StoredHash) -> None:
-    calls = in_each_form(*(Audit(field, 6, 5000) for field in alterations(stored.text)))
+    calls = in_each_form(
+        *(Audit(field, NUMBER_OF_SHA512CRYPT, 5000) for field in alterations(stored.text))
+    )
     driver.assert_matches_model(calls)
 
 
 @pytest.mark.parametrize("field", WITHOUT_SETTING, ids=str)
 def test_a_field_without_a_setting_has_its_error(driver: Driver, field: Field) -> None:
     error = error_of_audit(field.text, field.error)
-    for call in in_each_form(Audit(field.text, 6, 5000)):
+    for call in in_each_form(Audit(field.text, NUMBER_OF_SHA512CRYPT, 5000)):
         driver.assert_answer(call, result=0, error=error, cost=0)
     driver.assert_matches_model(audits_by_each_policy([field.text]))
     driver.assert_matches_model(audits_by_budgets([field.text]))
@@ -135,7 +139,7 @@ def test_a_field_without_a_setting_has_its_error(driver: Driver, field: Field) -
 @pytest.mark.parametrize("field", WITH_SETTING, ids=str)
 def test_an_impossible_hash_is_dead_or_over_the_budget(driver: Driver, field: Field) -> None:
     error = Reason.OVER_BUDGET if field in TOO_DEAR else Reason.DEAD
-    for call in in_each_form(Audit(field.text, 6, 5000)):
+    for call in in_each_form(Audit(field.text, NUMBER_OF_SHA512CRYPT, 5000)):
         driver.assert_answer(call, result=0, error=error)
     driver.assert_matches_model(audits_by_each_policy([field.text]))
     driver.assert_matches_model(audits_by_budgets([field.text]))

@@ -21,8 +21,8 @@ ANOTHER_PASSWORD = SHA512CRYPT_OF_ANOTHER_PASSWORD
 BCRYPT = crypt(b"password", b"$2b$05$abcdefghijklmnopqrstuu")
 LONGEST = crypt(b"password", b"$7$6/..../...." + b"a" * 86)  # as long as a hash can be
 YESCRYPT = crypt(b"password", b"$y$j75$abcdefghijklmnopqrst.1$")
-ASKS = "mkpasswd_login(password, mkpasswd_field(is_known ? field : NULL), NULL, &report)"
-ASKS_BOTH = "matches(typed, is_known ? field : NULL, &report)"
+CALL = "mkpasswd_login(password, mkpasswd_field(is_known ? field : NULL), NULL, &report)"
+CALL_FOR_BOTH = "matches(typed, is_known ? field : NULL, &report)"
 NO_POLICY = ", NULL, "
 NOT_STORED = b"ann: not renewed: the new hash isn't stored\n"
 
@@ -47,9 +47,9 @@ def fixture_service(builder: Builder, tmp_path_factory: pytest.TempPathFactory) 
 def fixture_moving_service(builder: Builder, tmp_path_factory: pytest.TempPathFactory) -> Path:
     """The page's service for users who have hashes from libxcrypt."""
     login = marked("whole login in C", "c").code
-    assert ASKS in login
+    assert CALL in login
     names = ("users in C", "new password in C", "moving in C")
-    code = "".join(marked(name, "c").code for name in names) + login.replace(ASKS, ASKS_BOTH)
+    code = "".join(marked(name, "c").code for name in names) + login.replace(CALL, CALL_FOR_BOTH)
     words = ("-D_DEFAULT_SOURCE", "-Wl,--no-as-needed", "-lcrypt")
     return built(builder, tmp_path_factory.mktemp("moving"), code, *words)
 
@@ -59,7 +59,7 @@ def fixture_service_with_policy(builder: Builder, tmp_path_factory: pytest.TempP
     """The service of the page, whose calls get the page's policy as the page says."""
     names = ("users in C", "policy in C", "new password in C", "whole login in C")
     code = "".join(marked(name, "c").code for name in names)
-    assert code.count(NO_POLICY) == len(("log_in", "renew", "hash_new_password"))
+    assert code.count(NO_POLICY) == 3, "expected one in log_in, renew and hash_new_password each"
     code = code.replace(NO_POLICY, ", &policy, ")
     return built(builder, tmp_path_factory.mktemp("policy"), code)
 
@@ -149,7 +149,7 @@ def test_another_hash_of_the_same_password_that_comes_meanwhile_is_accepted(serv
 
 
 def test_a_field_that_is_never_the_same_lets_nobody_in(service: Path) -> None:
-    fields = (SAME_PASSWORD.decode(), CURRENT.decode()) * 3
+    fields = (SAME_PASSWORD.decode(), CURRENT.decode()) * 3  # as many as the service reads
     result = run(service, CURRENT, "password", env={"FIELDS": " ".join(fields)})
     assert_result(
         result,
@@ -164,7 +164,7 @@ def test_a_field_that_is_never_the_same_lets_nobody_in(service: Path) -> None:
 
 def test_a_new_password_is_hashed(service: Path) -> None:
     result = run(service, CURRENT, "password", "correct horse").required()
-    new = result.stdout.split(b"\n")[1]
+    _, new = result.stdout.splitlines()  # Ann's field, and the new hash
     assert crypt(b"correct horse", new) == new and new.startswith(b"$6$rounds=656000$")
 
 
@@ -178,7 +178,7 @@ def test_a_new_password_is_hashed(service: Path) -> None:
 )
 def test_an_invalid_new_password_is_refused(service: Path, password: str, sentence: bytes) -> None:
     result = run(service, CURRENT, "password", password).required()
-    assert result.stdout.split(b"\n")[1] == sentence, result
+    assert result.stdout == CURRENT + b"\n" + sentence + b"\n", result
 
 
 # ---- Moving from another scheme

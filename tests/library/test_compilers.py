@@ -16,7 +16,7 @@ from support.needs import built
 from support.process import Word, assert_result, run
 
 RANDOM_BYTES = b"".join(number.to_bytes(8, "little") for number in (1, 2, 3))
-# With enough memory, with each allocation refused in turn, and without random numbers.
+# Systems with enough memory, with each allocation refused in turn, and without random numbers.
 SYSTEMS = (*(System(number, RANDOM_BYTES) for number in range(5)), System())
 ARM = "aarch64-linux-gnu-gcc"
 
@@ -65,12 +65,12 @@ class Linking:
 
 
 LINKINGS = (
-    Linking("with the static library", False, ("-O2", *COUNTS_STATIC)),
-    Linking("with the shared library", True, ("-O0", *COUNTS_SHARED)),
+    Linking("with the static library", is_shared=False, words=("-O2", *COUNTS_STATIC)),
+    Linking("with the shared library", is_shared=True, words=("-O0", *COUNTS_SHARED)),
     Linking(
         "with sanitizers",
-        False,
-        ("-g", "-O1", "-DSANITIZED", *SANITIZERS, *COUNTS_STATIC),
+        is_shared=False,
+        words=("-g", "-O1", "-DSANITIZED", *SANITIZERS, *COUNTS_STATIC),
     ),
 )
 
@@ -127,7 +127,7 @@ def test_a_caller_in_the_oldest_standard_makes_all_calls(
     installed: Installed, tmp_path: Path, compiler: Compiler, linking: Linking
 ) -> None:
     program = tmp_path / "caller"
-    # The static library isn't a source file.
+    # "-x none" ends the language of the sources, which the static library doesn't have.
     library = installed.shared if linking.is_shared else ["-x", "none", *installed.static]
     words: list[Word] = [*compiler.words, SOURCE, f"-std={compiler.standards[0]}"]
     assert_result(run(*words, *linking.words, *library, "-o", program))

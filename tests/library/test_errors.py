@@ -1,4 +1,4 @@
-"""Each error: a call that fails with it returns 0, whatever the report was before.
+"""Each error: a call that reports it returns 0, whatever was in the report before.
 
 The driver makes each call with a report of ones, with a report of zeros, and without one.
 """
@@ -24,6 +24,7 @@ from support.model.calls import (
 from support.stored_fields import MD5CRYPT, NEVER_OPEN, SCRYPT_OF_PASSWORD, Field
 
 WITHOUT_MEMORY = System(refused_allocation=1)
+# The first field with each error.
 ONE_OF_EACH_ERROR = {field.error: field for field in reversed(NEVER_OPEN)}.values()
 
 
@@ -40,13 +41,13 @@ class Failure:
         return self.title
 
 
-def failures_by(field: Field) -> list[Failure]:
+def failures_with(field: Field) -> list[Failure]:
     """Returns a check and a login with a field that never matches "password"."""
     is_dead = field.error is Reason.WRONG_PASSWORD
     return [
         Failure(f"a check of {field.title}", Verify(b"password", field.text), field.error),
         Failure(
-            f"a login by {field.title}",
+            f"a login with {field.title}",
             Login(b"password", field.text, 1),
             Reason.DEAD if is_dead else field.error,
         ),
@@ -54,14 +55,14 @@ def failures_by(field: Field) -> list[Failure]:
 
 
 FAILURES = (
-    *(failure for field in ONE_OF_EACH_ERROR for failure in failures_by(field)),
+    *(failure for field in ONE_OF_EACH_ERROR for failure in failures_with(field)),
     Failure("a login with 1025 bytes", Login(b"a" * 1025, MD5CRYPT), Reason.PASSWORD_TOO_LONG),
     Failure("a login with a zero byte", Login(b"password\0", MD5CRYPT), Reason.PASSWORD_ZERO_BYTE),
     Failure("a login with a null password", Login(None, MD5CRYPT), Reason.PASSWORD_ZERO_BYTE),
     Failure("a login of an unknown name", Login(b"password", None, 1), Reason.NO_HASH),
     Failure("a login with a wrong password", Login(b"passw0rd", MD5CRYPT), Reason.WRONG_PASSWORD),
     Failure("a login by an unknown method", Login(b"password", MD5CRYPT, 2), Reason.UNKNOWN_METHOD),
-    Failure("a login with 12 rounds", Login(b"password", MD5CRYPT, 6, 12), Reason.ROUNDS),
+    Failure("a login by a policy of 12 rounds", Login(b"password", MD5CRYPT, 6, 12), Reason.ROUNDS),
     Failure(
         "a login without memory",
         Login(b"password", SCRYPT_OF_PASSWORD.text),
@@ -78,7 +79,7 @@ FAILURES = (
     Failure("a setting without a salt", MakeSetting(0, 0, b""), Reason.SALT_LENGTH),
     Failure("a setting with a bad salt", MakeSetting(0, 0, b"a_b"), Reason.SALT_CHARACTER),
     Failure(
-        "a hash without room in out",
+        "a hash that doesn't fit into out",
         Hash(b"password", CHEAP_SCRYPT, out_size=8),
         Reason.TOO_FEW_BYTES,
     ),

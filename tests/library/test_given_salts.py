@@ -3,11 +3,12 @@ from __future__ import annotations
 
 import pytest
 from support.driver import Driver
-from support.model.calls import METHODS, Hash, MakeSetting, Reason, in_each_form
+from support.model.calls import METHODS, TEXT_SIZE, Hash, MakeSetting, Reason, in_each_form
 from support.model.methods import ALPHABET, Method
 from support.policies import INVALID_POLICIES, INVALID_ROUNDS, POLICIES, InvalidPolicy, Policy
 
 PASSWORD = b"password"
+SETTING = b"$6$rounds=1000$salt"
 NAMED_METHODS = [pytest.param(number, method, id=method.name) for number, method in METHODS.items()]
 
 
@@ -62,27 +63,27 @@ def test_an_invalid_policy_is_refused(driver: Driver, policy: InvalidPolicy) -> 
         pytest.param(
             MakeSetting(7, 5, b"$" * 87, 0),
             Reason.SALT_LENGTH,
-            id="a salt's length comes before its characters, the rounds and the room",
+            id="a salt's length comes before its characters, the rounds and the size of out",
         ),
         pytest.param(
             MakeSetting(7, 5, b"$" * 86, 0),
             Reason.SALT_CHARACTER,
-            id="a salt's characters come before the rounds and the room",
+            id="a salt's characters come before the rounds and the size of out",
         ),
         pytest.param(
             MakeSetting(7, 5, b"salt", 0),
             Reason.ROUNDS,
-            id="the rounds come before the room",
+            id="the rounds come before the size of out",
         ),
         pytest.param(
             MakeSetting(6, 999, b"salt", 0),
             Reason.ROUNDS,
-            id="rounds that would be clamped come before the room",
+            id="rounds that would be clamped come before the size of out",
         ),
         pytest.param(
-            MakeSetting(6, 1000, b"salt", 19),
+            MakeSetting(6, 1000, b"salt", len(SETTING)),
             Reason.TOO_FEW_BYTES,
-            id="the room comes last",
+            id="the size of out comes last",
         ),
     ],
 )
@@ -90,9 +91,9 @@ def test_the_first_refusal_is_reported(driver: Driver, call: MakeSetting, error:
     driver.assert_answer(call, result=0, error=error)
 
 
-@pytest.mark.parametrize("room", [None, 0, 1, 2, 3, 19, 20, 145])
-def test_a_setting_is_written_if_out_is_large_enough(driver: Driver, room: int | None) -> None:
-    driver.assert_matches_model(in_each_form(MakeSetting(6, 1000, b"salt", room)))
+@pytest.mark.parametrize("out_size", [None, 0, 1, 2, 3, len(SETTING), len(SETTING) + 1, TEXT_SIZE])
+def test_a_setting_is_written_if_out_is_large_enough(driver: Driver, out_size: int | None) -> None:
+    driver.assert_matches_model(in_each_form(MakeSetting(6, 1000, b"salt", out_size)))
 
 
 def test_a_password_is_hashed_with_the_setting(driver: Driver) -> None:

@@ -28,10 +28,9 @@ ERROR = re.compile(
 )
 # The layout of struct mkpasswd_report: eight numbers of 32 bits and six of 64, little-endian.
 REPORT = struct.Struct("<8I6Q")
-FIELDS = (
-    *("error", "outdated", "length", "scheme", "rounds", "n", "r", "p"),
-    *("cost", "digests", "bytes", "mixes", "table", "scratch"),
-)
+SMALL_FIELDS = ("error", "outdated", "length", "scheme", "rounds", "n", "r", "p")
+LARGE_FIELDS = ("cost", "digests", "bytes", "mixes", "table", "scratch")
+FIELDS = SMALL_FIELDS + LARGE_FIELDS
 # The calls that tests/c/report.c makes.
 REPORTED: tuple[Call, ...] = (
     Hash(b"password", b"$7$46..../....SodiumChloride"),
@@ -67,13 +66,13 @@ def test_each_error_of_the_header_has_a_comment_with_its_message(installed: Inst
         *(
             pytest.param(re.sub(r"\W", "_", name).upper(), number, id=f"the number of {name}")
             for name, number in NUMBERS_OF_OTHERS.items()
-            if name is not None
+            if name is not None  # the dict's type allows None only for its get()
         ),
         pytest.param("PASSWORD_LIMIT", LONGEST_PASSWORD, id="the longest password"),
         pytest.param(
             "TEXT_SIZE",
             length_of_hash(read_setting(SCRYPT_WITH_LONGEST_SALT)) + 1,
-            id="the room for the longest hash",
+            id="the size of an out for the longest hash",
         ),
     ],
 )
@@ -94,7 +93,7 @@ def test_each_field_of_a_report_is_in_its_place(builder: Builder) -> None:
 
 
 def test_no_two_fields_are_equal_in_all_reports() -> None:
-    """Otherwise the test above would miss it if two fields were swapped."""
+    """Otherwise the test of a report's layout would miss it if two fields were swapped."""
     reports = [call.expected(System()) for call in REPORTED]
     values = [tuple(getattr(report, name) for report in reports) for name in FIELDS]
     assert len(set(values)) == len(values)

@@ -14,8 +14,10 @@ from support.process import Changes, assert_result, run
 SYMBOL_VERSION = "MKPASSWD_3"
 # Matches a line of `objdump -T`: an address, flags, section and size, the version, the name.
 SYMBOL = re.compile(r"^[0-9a-f]{16} (.*) (MKPASSWD_[\d.]+) +(mkpasswd_\w+)$", re.MULTILINE)
+# Matches a command in a manual's source that compiles and links.
 LINKS = re.compile(r"^\.Dl ((?:musl-gcc|cc) .*)$", re.MULTILINE)
 PRINTED_BY_LOGIN = b"$6$rounds=656000\n"
+# Here $CC is the compiler, and cc may be missing.
 LOGIN_BY_PKG_CONFIG = """\
 cc() { command "$CC" "$@"; }
 cc -o login examples/login.c $(pkg-config --cflags --libs mkpasswd); ./login"""
@@ -62,6 +64,7 @@ def test_the_shared_library_has_each_exported_call_in_one_version(installed: Ins
 @pytest.mark.needs("objdump")
 def test_the_static_library_has_only_the_exported_calls(installed: Installed) -> None:
     result = run("nm", "-g", "--defined-only", installed.libraries / "libmkpasswd.a").required()
+    # A line of nm: an address, the kind of the symbol, and its name.
     found = re.findall(r"^\S+ \w (\S+)$", result.stdout.decode(), re.MULTILINE)
     assert sorted(found) == installed.exported(), str(result)
 
@@ -86,7 +89,7 @@ def test_a_library_states_which_processor_it_needs(installed: Installed, name: s
 
 
 @pytest.mark.needs("qemu-x86_64-static")
-def test_a_processor_below_that_is_refused(installed: Installed) -> None:
+def test_a_processor_below_x86_64_v2_is_refused(installed: Installed) -> None:
     program = installed.root / "usr/bin/mkpasswd"
     result = run("qemu-x86_64-static", "-cpu", "core2duo", program, "-V")
     assert result.status == 127, str(result)

@@ -12,9 +12,12 @@ from support.driver import Driver
 from support.model.calls import METHODS, Call, Limit, Login, New, System
 from support.model.work import cost, login_limit
 from support.model.settings import recommended_setting
-from support.model.methods import SHA512CRYPT
+from support.model.methods import SHA512CRYPT, Method
 from support.stored_fields import LONGEST_PASSWORD, MD5CRYPT, SCRYPT_OF_PASSWORD
 
+# What a new hash of the longest password can cost with the recommended method and rounds.
+MOST_COST = 1_297_572_512
+NUMBER_OF_SHA512CRYPT = 6
 RANDOM_BYTES = System(random_bytes=bytes(range(1, 25)))
 FIELDS = {
     "no hash": b"",
@@ -35,9 +38,13 @@ def documented_limits() -> dict[str, tuple[int, int]]:
     return {name: (int(limit), int(longest.replace(",", ""))) for name, limit, longest in rows}
 
 
-LONGEST = {
-    number: documented_limits().get(method.name, (0, 0))[1] for number, method in METHODS.items()
-}
+def documented_length(method: Method) -> int:
+    """Returns the length of the longest password, or 0 if docs/FORMATS.md lacks the method."""
+    _, longest = documented_limits().get(method.name, (0, 0))
+    return longest
+
+
+LONGEST = {number: documented_length(method) for number, method in METHODS.items()}
 TOO_LONG = [
     (number, length) for number in METHODS for length in (169, 1024) if length > LONGEST[number]
 ]
@@ -108,18 +115,19 @@ def test_a_longer_password_is_refused_without_work_whatever_is_stored(
     "fewer", [pytest.param(0, id="the cost"), pytest.param(1, id="one less than the cost")]
 )
 def test_a_given_budget_can_admit_all_1024_bytes(driver: Driver, field: bytes, fewer: int) -> None:
-    budget = 1_297_572_512 - fewer
-    driver.assert_matches_model([Login(LONGEST_PASSWORD, field, 6, 0, budget)], threads=2)
+    calls = [Login(LONGEST_PASSWORD, field, NUMBER_OF_SHA512CRYPT, 0, MOST_COST - fewer)]
+    driver.assert_matches_model(calls, threads=2)
 
 
 @METHOD_NUMBERS
 def test_a_budget_of_1297572512_admits_every_password(driver: Driver, number: int) -> None:
-    driver.assert_answer(Limit(number, 0, 1_297_572_512), result=1, length=1024)
+    driver.assert_answer(Limit(number, 0, MOST_COST), result=1, length=1024)
 
 
 def test_no_smaller_budget_admits_every_password(driver: Driver) -> None:
-    driver.assert_answer(Limit(6, 0, 1_297_572_511), result=1, length=1023)
+    call = Limit(NUMBER_OF_SHA512CRYPT, 0, MOST_COST - 1)
+    driver.assert_answer(call, result=1, length=1023)
 
 
 def test_1297572512_is_what_the_longest_password_can_cost() -> None:
-    assert cost(recommended_setting(SHA512CRYPT, 0, b"a" * 16), 1024) == 1_297_572_512
+    assert cost(recommended_setting(SHA512CRYPT, 0, b"a" * 16), 1024) == MOST_COST

@@ -60,21 +60,26 @@ def fixture_library() -> ctypes.CDLL:
 
 def answer_of(returned: int, report: bytes) -> Answer:
     """Returns the answer of a call. Fails if its report says that it hashed or audited."""
-    error, outdated, length, scheme, rounds, *others = REPORT.unpack(report)
-    cost = others.pop(3)  # it follows n, r and p
-    assert (outdated, scheme, others) == (0, 0, [0] * 8)
+    error, outdated, length, scheme, rounds, n, r, p, cost, *counts = REPORT.unpack(report)
+    assert (outdated, scheme, n, r, p) == (0, 0, 0, 0, 0)
+    assert counts == [0, 0, 0, 0, 0]
     return Answer(returned, error, length, cost, rounds)
 
 
+def refusal(error: int, cost: int = 0) -> Answer:
+    """Returns the answer of a call that reports an error, and perhaps a cost."""
+    return Answer(returned=0, error=error, length=0, cost=cost, rounds=0)
+
+
 def limit_of(library: ctypes.CDLL, policy: Policy) -> Answer:
-    """Calls mkpasswd_limit."""
+    """Calls mkpasswd_limit_bytes."""
     report = ctypes.create_string_buffer(REPORT.size)
     returned = library.mkpasswd_limit_bytes(policy.method, policy.rounds, policy.budget, report)
     return answer_of(returned, report.raw)
 
 
 def rounds_of(library: ctypes.CDLL, length: int, policy: Policy) -> Answer:
-    """Calls mkpasswd_rounds."""
+    """Calls mkpasswd_rounds_bytes."""
     report = ctypes.create_string_buffer(REPORT.size)
     numbers = (policy.method, policy.rounds, policy.budget)
     returned = library.mkpasswd_rounds_bytes(length, *numbers, report)
@@ -96,10 +101,10 @@ def assert_limit(library: ctypes.CDLL, policy: Policy) -> None:
     """Fails the test unless the report has the limit and the longest password within it."""
     answer = limit_of(library, policy)
     if policy.error is not None:
-        assert answer == Answer(0, policy.error, 0, 0, 0), policy
+        assert answer == refusal(policy.error), policy
         return
     if new_cost(policy.method, policy.chosen_rounds, 0) > policy.limit:
-        assert answer == Answer(0, Reason.OVER_BUDGET, 0, policy.limit, 0), policy
+        assert answer == refusal(Reason.OVER_BUDGET, policy.limit), policy
         return
     rounds = 0 if policy.method == MD5CRYPT else policy.chosen_rounds
     assert answer == Answer(1, 0, answer.length, policy.limit, rounds), policy
@@ -110,17 +115,18 @@ def assert_rounds(library: ctypes.CDLL, policy: Policy, length: int) -> None:
     """Fails the test unless the report has rounds within the limit, and their cost."""
     answer = rounds_of(library, length, policy)
     if length > LONGEST_PASSWORD:
-        assert answer == Answer(0, Reason.PASSWORD_TOO_LONG, 0, 0, 0), (policy, length)
+        assert answer == refusal(Reason.PASSWORD_TOO_LONG), (policy, length)
         return
     if policy.error is not None:
-        assert answer == Answer(0, policy.error, 0, 0, 0), (policy, length)
+        assert answer == refusal(policy.error), (policy, length)
         return
     rounds = fitted_rounds(policy, length)
     if rounds is None:
-        own = new_cost(policy.method, policy.chosen_rounds, length)
-        assert answer == Answer(0, Reason.OVER_BUDGET, 0, own, 0), (policy, length)
+        cost_by_policy = new_cost(policy.method, policy.chosen_rounds, length)
+        assert answer == refusal(Reason.OVER_BUDGET, cost_by_policy), (policy, length)
         return
-    expected = Answer(1, 0, 0, new_cost(policy.method, rounds, length), rounds)
+    cost = new_cost(policy.method, rounds, length)
+    expected = Answer(returned=1, error=0, length=0, cost=cost, rounds=rounds)
     assert answer == expected, (policy, length)
     assert answer.cost <= policy.limit, (policy, length)
 
@@ -167,7 +173,8 @@ def test_rounds_for_any_length_keep_a_new_hash_within_the_limit(library: ctypes.
     """Tries 100,000 random policies, each with a random length."""
     source = random.Random(112)
     for policy in random_policies(seed=113, count=POLICIES):
-        assert_rounds(library, policy, source.choice((0, 64, 1024, 1025, source.randrange(1026))))
+        length = source.choice((0, 64, 1024, 1025, source.randrange(1026)))
+        assert_rounds(library, policy, length)
 
 
 @pytest.mark.parametrize(
@@ -179,6 +186,7 @@ def test_a_policy_without_a_budget_has_rounds_for_every_length(
 ) -> None:
     """The limit of such a policy is never below the cost of the fewest rounds."""
     for method in METHODS:
-        for rounds in (0, *((6, 11) if method == SCRYPT else (1000, 75_357, MOST_ROUNDS))):
+        numbers = (0, 6, 11) if method == SCRYPT else (0, 1000, 75_357, MOST_ROUNDS)
+        for rounds in numbers:
             policy = Policy(method, rounds, 0)
             assert rounds_of(library, length, policy).returned == 1, policy

@@ -38,15 +38,16 @@ INVALID_PASSWORDS = pytest.mark.parametrize(
         pytest.param(b"\0", b"!", Reason.PASSWORD_ZERO_BYTE, id="a zero byte for a locked field"),
     ],
 )
-# The hashes that are current by these policies. All others are outdated.
+# Pairs of a hash and a policy by which it is current. By each other policy it is outdated.
 CURRENT = {
     (OF_PASSWORD.title, "md5crypt"),
     ("Drepper's sha256crypt", "sha256crypt with 1000 rounds"),
     ("Drepper's sha512crypt with 10000 rounds", "sha512crypt with 5000 rounds"),
     ("Drepper's sha512crypt with 10000 rounds", "sha512crypt with 10000 rounds"),
 }
-COST_OF_MD5CRYPT = cost(read_setting(OF_PASSWORD.text), 8)
-COST_OF_SHA512CRYPT = cost(recommended_setting(SHA512CRYPT, 5000), 8)
+# Of "password".
+COST_OF_MD5CRYPT = cost(read_setting(OF_PASSWORD.text), len(OF_PASSWORD.password))
+COST_OF_SHA512CRYPT = cost(recommended_setting(SHA512CRYPT, 5000), len(OF_PASSWORD.password))
 
 
 @pytest.mark.parametrize("policy", POLICIES[:-1], ids=str)
@@ -133,7 +134,7 @@ def test_an_invalid_password_is_reported_before_an_invalid_policy(
     ],
 )
 def test_a_budget_limits_the_work(driver: Driver, field: bytes, budget: int) -> None:
-    """That includes the dummy hash, which a login makes if it has no hash to compare with."""
+    """The work includes the dummy hash that a login makes if it has no hash to compare with."""
     driver.assert_matches_model(in_each_form(Login(b"password", field, 6, 5000, budget)))
 
 
@@ -212,9 +213,10 @@ def test_each_kind_of_field_takes_the_same_work(
         Login(b"password", field, number, rounds, budget=0, form=Form.STRINGS)
         for field in fields.values()
     ]
+    answers = driver.answers(calls, threads=8)
     works = [
         (answer.digests, answer.bytes, answer.mixes, answer.table, answer.scratch)
-        for answer in driver.answers(calls, threads=8)
+        for answer in answers
     ]
-    assert works[0][0] > 0
+    assert answers[0].digests > 0
     assert dict(zip(fields, works)) == dict.fromkeys(fields, works[0])

@@ -29,7 +29,7 @@ def sizes_around(text: str) -> tuple[int, ...]:
 def test_an_error_has_its_message(driver: Driver, error: Reason) -> None:
     for call in in_each_form(Message(error)):
         driver.assert_answer(call, result=1, out=f'"{error.message}"')
-    calls = [Message(error, room) for room in sizes_around(error.message)]
+    calls = [Message(error, size) for size in sizes_around(error.message)]
     driver.assert_matches_model(in_each_form(*calls, Message(error, None)))
 
 
@@ -37,7 +37,7 @@ def test_an_error_has_its_message(driver: Driver, error: Reason) -> None:
 def test_0_and_an_unknown_error_are_an_unknown_reason(driver: Driver, number: int) -> None:
     for call in in_each_form(Message(number)):
         driver.assert_answer(call, result=0, out='"unknown reason"')
-    calls = [Message(number, room) for room in sizes_around("unknown reason")]
+    calls = [Message(number, size) for size in sizes_around("unknown reason")]
     driver.assert_matches_model(in_each_form(*calls, Message(number, None)))
 
 
@@ -55,12 +55,16 @@ def test_a_message_needs_nothing_from_the_system(driver: Driver) -> None:
 )
 def test_a_scheme_has_its_name(driver: Driver, number: int, name: str) -> None:
     driver.assert_answer(SchemeName(number), result=1, out=f'"{name}"')
-    calls = [SchemeName(number, room) for room in (*sizes_around(name), None)]
+    calls = [SchemeName(number, size) for size in (*sizes_around(name), None)]
     driver.assert_matches_model(in_each_form(*calls))
 
 
-@pytest.mark.parametrize("number", [0, 2, 3, 4, 8, 100, 109, 2**32 - 1])
+# 0, and numbers next to the known ones.
+UNKNOWN_SCHEMES = (0, 2, 3, 4, 8, 100, 109, 2**32 - 1)
+
+
+@pytest.mark.parametrize("number", UNKNOWN_SCHEMES)
 def test_another_number_is_an_unknown_scheme(driver: Driver, number: int) -> None:
     driver.assert_answer(SchemeName(number), result=0, out='"unknown scheme"')
-    calls = [SchemeName(number, room) for room in (*sizes_around("unknown scheme"), None)]
+    calls = [SchemeName(number, size) for size in (*sizes_around("unknown scheme"), None)]
     driver.assert_matches_model(in_each_form(*calls))

@@ -21,10 +21,12 @@ from support.model.calls import (
 from support.model.work import LONGEST_PASSWORD, cost
 from support.policies import CLAMPED, INVALID_POLICIES, POLICIES, InvalidPolicy, Policy
 
-LOWEST_DIGITS = System(random_bytes=b"\x81" + b"\0" * 23)
-MANY_DIGITS = System(random_bytes=bytes((place * 37 + 1) % 256 for place in range(24)))
+DRAWN = 24  # random bytes for a salt, of which each method uses as many as it needs
+LOWEST_DIGITS = System(random_bytes=b"\x81".ljust(DRAWN, b"\0"))
+MANY_DIGITS = System(random_bytes=bytes((place * 37 + 1) % 256 for place in range(DRAWN)))
 NO_NUMBERS = System()
 REAL = System(is_real=True)
+SCRYPT = 7  # the number of the method
 
 SYSTEMS = pytest.mark.parametrize(
     "system",
@@ -34,25 +36,31 @@ SYSTEMS = pytest.mark.parametrize(
     ],
 )
 VALID = [policy for policy in POLICIES if policy not in CLAMPED]
-PASSWORDS = (b"password", b"a" * (LONGEST_PASSWORD + 1), b"pass\0")
-DEAR = 10_000_000
+PASSWORD = b"password"
+PASSWORDS = (PASSWORD, b"a" * (LONGEST_PASSWORD + 1), b"pass\0")
+EXPENSIVE = 10_000_000  # a cost above which a test makes only a few hashes
+
+
+def cost_by(policy: Policy) -> int:
+    """Returns what a hash of PASSWORD by this policy can cost."""
+    return cost(policy.setting, len(PASSWORD))
 
 
 def affordable() -> list[Policy]:
     """Returns the policies whose hashes cost no more than BUDGET."""
-    return [policy for policy in POLICIES if cost(policy.setting, 8) <= BUDGET]
+    return [policy for policy in POLICIES if cost_by(policy) <= BUDGET]
 
 
 def new_by(policy: Policy) -> list[New]:
     """Returns calls with each password, size of `out` and budget, fewer for expensive policies."""
-    length, price = length_of_hash(policy.setting), cost(policy.setting, 8)
+    length, price = length_of_hash(policy.setting), cost_by(policy)
     calls = []
-    for room in (0, 1, 2, 3, length, length + 1, TEXT_SIZE):
+    for out_size in (0, 1, 2, 3, length, length + 1, TEXT_SIZE):
         budgets = [0, 1, price - 1, price, GREATEST]
-        if price > DEAR and room > length:
+        if price > EXPENSIVE and out_size > length:
             budgets = [1, price - 1]
         calls += [
-            New(password, policy.method, policy.rounds, budget, room)
+            New(password, policy.method, policy.rounds, budget, out_size)
             for password in PASSWORDS
             for budget in budgets
         ]
@@ -60,9 +68,9 @@ def new_by(policy: Policy) -> list[New]:
 
 
 def test_a_salt_uses_the_lowest_bits_first(driver: Driver) -> None:
-    assert salt_of((129, 0, 0), 8) == b"/0......"
-    made = crypt(b"password", b"$1$/0......").decode()
-    driver.assert_answer(New(b"password", 1), LOWEST_DIGITS, result=1, out=f'"{made}"')
+    assert salt_of((0x81, 0, 0), 8) == b"/0......"
+    expected = crypt(PASSWORD, b"$1$/0......").decode()
+    driver.assert_answer(New(PASSWORD, 1), LOWEST_DIGITS, result=1, out=f'"{expected}"')
 
 
 @SYSTEMS
@@ -80,10 +88,10 @@ def test_each_form_makes_a_new_hash_and_accepts_null_pointers(
     driver: Driver, policy: Policy, system: System
 ) -> None:
     """Calls the exported function, and the inline one with a password of bytes and of a string."""
-    price = cost(policy.setting, 8)
+    price = cost_by(policy)
     calls = in_each_form(
-        New(b"password", policy.method, policy.rounds, price),
-        New(b"password", policy.method, policy.rounds, price, None),
+        New(PASSWORD, policy.method, policy.rounds, price),
+        New(PASSWORD, policy.method, policy.rounds, price, out_size=None),
         New(None, policy.method, policy.rounds, price),
     )
     driver.assert_matches_model(calls, system, threads=4)
@@ -94,9 +102,9 @@ def test_an_invalid_policy_makes_no_hash(driver: Driver, policy: InvalidPolicy) 
     call = New(b"password", policy.method, policy.rounds)
     driver.assert_answer(call, result=0, error=policy.error, drawn=0, out='"*0"')
     calls = [
-        New(password, policy.method, policy.rounds, budget, room)
+        New(password, policy.method, policy.rounds, budget, out_size)
         for password in PASSWORDS
-        for room in (0, 1, 2, 3, 4, TEXT_SIZE)
+        for out_size in (0, 1, 2, 3, 4, TEXT_SIZE)
         for budget in (0, 1, 8, 9, GREATEST)
     ]
     driver.assert_matches_model(in_each_form(*calls), MANY_DIGITS)
@@ -117,7 +125,7 @@ def test_without_random_numbers_there_is_no_hash(driver: Driver, policy: Policy)
         result=0,
         error=Reason.NO_RANDOM_NUMBERS,
         digests=0,
-        drawn=24,
+        drawn=DRAWN,
         out='"*0"',
     )
 
@@ -126,7 +134,7 @@ def test_without_random_numbers_there_is_no_hash(driver: Driver, policy: Policy)
 @pytest.mark.parametrize("allocation", [1, 2, 3, 4])
 def test_a_failed_allocation_makes_no_hash(driver: Driver, allocation: int, system: System) -> None:
     system = System(allocation, system.random_bytes)
-    calls = [New(password, 7, 0, BUDGET) for password in (b"password", b"a\0")]
+    calls = [New(password, SCRYPT, 0, BUDGET) for password in (PASSWORD, b"a\0")]
     driver.assert_matches_model(calls, system)
 
 
@@ -161,19 +169,20 @@ def test_the_longest_password_gets_a_hash(driver: Driver, method: int, system: S
 
 def test_10000_salts_from_the_system_differ(driver: Driver) -> None:
     answers = driver.answers([New(b"a", 1)] * 10_000, REAL)
-    assert {(answer.result, answer.error, answer.drawn) for answer in answers} == {(1, 0, 24)}
-    salts = {match[0] for answer in answers if (match := re.match(r'"\$1\$[^$]{8}\$', answer.out))}
+    assert {(answer.result, answer.error, answer.drawn) for answer in answers} == {(1, 0, DRAWN)}
+    matches = [re.match(r'"\$1\$([^$]{8})\$', answer.out) for answer in answers]
+    salts = {match[1] for match in matches if match is not None}
     assert len(salts) == 10_000
 
 
 def test_a_policy_of_zeros_is_sha512crypt_with_656000_rounds(driver: Driver) -> None:
-    """So is a null policy: the driver makes each inline call with both."""
-    for call in in_each_form(New(b"password")):
-        made = driver.answers([call], MANY_DIGITS)[0].out.strip('"').encode()
-        assert made.startswith(b"$6$rounds=656000$"), call.row
-        assert crypt(b"password", made) == made
+    """A null policy is the same: the driver makes each inline call with both."""
+    for call in in_each_form(New(PASSWORD)):
+        new = driver.answers([call], MANY_DIGITS)[0].out.strip('"').encode()
+        assert new.startswith(b"$6$rounds=656000$"), call.row
+        assert crypt(PASSWORD, new) == new
 
 
 def test_libxcrypt_agrees_with_a_hash_with_a_random_salt(driver: Driver) -> None:
-    made = driver.answers([New(b"a", 1)], REAL)[0].out.strip('"').encode()
-    assert crypt(b"a", made) == made
+    new = driver.answers([New(b"a", 1)], REAL)[0].out.strip('"').encode()
+    assert crypt(b"a", new) == new

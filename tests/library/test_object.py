@@ -15,6 +15,7 @@ from support.process import run
 
 USUAL_LEVEL = "x86-64-v2"
 LEVELS = ("x86-64", USUAL_LEVEL, "x86-64-v3")
+# The calls of each function that isn't proved, sorted.
 CALLED = {
     "hash_anew": ["getentropy", "mkpasswd_proved_new_from", "mkpasswd_proved_new_from"],
     "mkpasswd_new_bytes": ["hash_anew", "wipe_stack"],
@@ -24,13 +25,17 @@ CALLED = {
 }
 # Matches a call of another object's function, or of a static function of this object.
 CALL = re.compile(r"PLT32\s+(\w+)|\t(?:call|jmp) .*<(wipe_stack|hash_anew)>$", re.MULTILINE)
+# Matches a function: its name, and its instructions up to an empty line.
 FUNCTION = re.compile(r"^\w+ <(\S+)>:\n(.*?)\n(?=\n|\Z)", re.MULTILINE | re.DOTALL)
-# These match the call that hashes, and the comparison of a byte with one of the stored hash.
+# Matches the call that hashes.
 HASHED = re.compile(r"^.*\bcrypt_core::hash::hash_by\b.*\n", re.MULTILINE)
+# Matches the comparison of a byte with one of the stored hash, by an exclusive or.
 BYTE_COMPARED = re.compile(r"\txor +[^\n]*\([^\n]*,1\),%\w+\n")
+# Matches a test or a comparison on whose result the next instruction jumps.
 JUMP_ON_A_TEST = re.compile(r"\t((?:test|cmp)\w* [^\n]*)\n[^\n]*\tj")
 # An instruction that tests a 64-bit register, or compares with a number above 0, tests a length.
 OF_A_LENGTH = re.compile(r"[ ,]%r(?:[a-d]x|[sd]i|[sb]p|\d+)\b| \$0x[1-9a-f]\w*,")
+# Matches functions and instructions that compare several bytes at once.
 COMPARES_WORDS = re.compile(r"memcmp|bcmp|repz|pmovmsk|ptest")
 
 pytestmark = pytest.mark.needs("objdump")
@@ -57,9 +62,9 @@ def fixture_comparisons(functions: dict[str, str]) -> dict[str, str]:
     """The instructions of each function that compares hashes, after the call that hashes."""
     found = {}
     for name, body in functions.items():
-        _, *parts = HASHED.split(body)
-        if parts and BYTE_COMPARED.search(parts[-1]):
-            found[name] = parts[-1]
+        _, *after_calls = HASHED.split(body)
+        if after_calls and BYTE_COMPARED.search(after_calls[-1]):
+            found[name] = after_calls[-1]
     assert found, "no function compares hashes"
     return found
 
@@ -86,8 +91,8 @@ def test_only_names_differ_from_the_proved_object(folder: Path, tmp_path: Path) 
 def test_a_function_calls_its_proved_one_and_wipes_the_stack(
     functions: dict[str, str], name: str
 ) -> None:
-    calls = [first or second for first, second in CALL.findall(functions[name])]
-    # The stack protector calls this only to end the process.
+    calls = [of_another or own for of_another, own in CALL.findall(functions[name])]
+    # The stack protector calls __stack_chk_fail only to end the process.
     calls = [called for called in calls if called != "__stack_chk_fail"]
     assert sorted(calls) == CALLED[name], f"the instructions of {name}:\n{functions[name]}"
 
@@ -95,7 +100,7 @@ def test_a_function_calls_its_proved_one_and_wipes_the_stack(
 def test_a_comparison_branches_only_on_lengths_and_on_its_result(
     comparisons: dict[str, str]
 ) -> None:
-    """It tests whether there is a hash, and at the end whether any byte differs."""
+    """A comparison tests whether there is a hash, and at the end whether any byte differs."""
     for name, body in comparisons.items():
         tests = [test for test in JUMP_ON_A_TEST.findall(body) if not OF_A_LENGTH.search(test)]
         assert len(tests) == 2, "\n".join([name, *tests, body])

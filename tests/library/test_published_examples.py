@@ -1,7 +1,8 @@
 """Published examples in which an allocation fails, and the largest scrypt hashes.
 
 A test in a crate can't make an allocation fail, and no clause rules out that a call reports a
-failed allocation when none has failed. The expected numbers are both literals and the model's.
+failed allocation when none has failed. Each answer must have the numbers given here, and be the
+model's.
 """
 from __future__ import annotations
 
@@ -13,7 +14,7 @@ from support.driver import Driver
 from support.model.calls import GREATEST, Hash, Login, Reason, System, Verify
 from support.needs import not_applicable
 
-SCRYPT = 7
+SCRYPT = 7  # the number of the method
 
 # The hash in openssl-passwd(1), and the third test vector of RFC 7914.
 MD5 = b"$1$xxxxxxxx$UYCIxa628.9qXjpQCjM4a."
@@ -113,16 +114,16 @@ def test_md5crypt_needs_no_memory(driver: Driver, refused: int) -> None:
 # give the same hash.
 LARGEST_ROUNDS = 11
 LARGEST = b"$7$GU..../....ab$usU8J1uEK/M/.nHi2It6aoypY36zRdBmdiCRjefMUs."
-NEEDED_KILOBYTES = 3 * 2**19
+NEEDED_KILOBYTES = 3 << 19  # 1.5 GiB: the table, and half as much for the rest of the system
 OF_THE_POLICY = 0  # the budget that stands for the policy's limit
 
 
 @pytest.fixture(name="driver_with_memory")
 def fixture_driver_with_memory(driver: Driver) -> Driver:
-    """The driver, if 1 GiB of memory is available."""
+    """The driver, if enough memory is available."""
     available = re.search(r"MemAvailable: +(\d+) kB", Path("/proc/meminfo").read_text("ascii"))
     if available and int(available[1]) < NEEDED_KILOBYTES:
-        not_applicable("a hash needs 1 GiB of memory")
+        not_applicable("less than 1.5 GiB of memory is available")
     return driver
 
 

@@ -1,6 +1,7 @@
-"""Refusals: which one is reported if several apply, and what is in `out` then.
+"""Refusals: which one a call reports if several apply, and what it then writes to `out`.
 
-This tests mkpasswd_hash, mkpasswd_bound and mkpasswd_needs_rehash; test_new.py tests mkpasswd_new.
+The calls are mkpasswd_hash, mkpasswd_bound and mkpasswd_needs_rehash. test_new.py has those of
+mkpasswd_new.
 """
 from __future__ import annotations
 
@@ -28,7 +29,8 @@ from support.stored_fields import (
     WITHOUT_SETTING,
 )
 
-PASSWORDS = (b"password", b"a" * 1025, b"pass\0word", b"\0" + b"a" * 1024)
+PASSWORD = b"password"
+PASSWORDS = (PASSWORD, b"a" * 1025, b"pass\0word", b"\0" + b"a" * 1024)
 
 
 @dataclass(frozen=True)
@@ -50,10 +52,15 @@ class Text:
             return 3
 
     @property
+    def out_sizes(self) -> tuple[int, ...]:
+        """Sizes of `out` that are too small for a hash or a token, and sizes that aren't."""
+        return (0, 1, 2, 3, self.length_of_hash, self.length_of_hash + 1, TEXT_SIZE)
+
+    @property
     def cost(self) -> int:
-        """What a hash of "password" can cost, or a small number if the text isn't a setting."""
+        """What a hash of PASSWORD can cost, or a small number if the text isn't a setting."""
         try:
-            return cost(read_setting(self.text), 8)
+            return cost(read_setting(self.text), len(PASSWORD))
         except Refused:
             return 9
 
@@ -69,12 +76,11 @@ TEXTS = (
 @pytest.mark.parametrize("text", TEXTS, ids=str)
 def test_the_first_of_several_refusals_of_a_hash_is_reported(driver: Driver, text: Text) -> None:
     """Tries each password with each size of `out` and each budget."""
-    rooms = (0, 1, 2, 3, text.length_of_hash, text.length_of_hash + 1, TEXT_SIZE)
     budgets = (0, text.cost - 1, text.cost, GREATEST)
     calls = [
-        Hash(password, text.text, budget, room)
+        Hash(password, text.text, budget, out_size)
         for password in PASSWORDS
-        for room in rooms
+        for out_size in text.out_sizes
         for budget in budgets
     ]
     driver.assert_matches_model(calls)
@@ -82,12 +88,11 @@ def test_the_first_of_several_refusals_of_a_hash_is_reported(driver: Driver, tex
 
 @pytest.mark.parametrize("text", TEXTS, ids=str)
 def test_the_first_of_several_refusals_is_reported_in_each_form(driver: Driver, text: Text) -> None:
-    rooms = (0, 1, 2, 3, text.length_of_hash, text.length_of_hash + 1, TEXT_SIZE)
     calls = [
         call
         for password in PASSWORDS
-        for room in rooms
-        for call in in_each_form(Hash(password, text.text, text.cost, room))
+        for out_size in text.out_sizes
+        for call in in_each_form(Hash(password, text.text, text.cost, out_size))
     ]
     driver.assert_matches_model(calls)
 
@@ -133,7 +138,7 @@ def test_a_null_pointer_is_refused(
 @pytest.mark.parametrize("text", TEXTS, ids=str)
 def test_bound_reports_the_first_refusal(driver: Driver, text: Text) -> None:
     calls = [Bound(text.text, length) for length in (0, 1024, 1025, GREATEST)]
-    driver.assert_matches_model([*calls, *in_each_form(Bound(text.text, 8))])
+    driver.assert_matches_model([*calls, *in_each_form(Bound(text.text, len(PASSWORD)))])
 
 
 @pytest.mark.parametrize("text", TEXTS, ids=str)

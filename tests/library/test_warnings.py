@@ -1,4 +1,4 @@
-"""Compilers warn careless callers, and don't warn careful ones.
+"""Compilers warn about careless callers, and not about careful ones.
 
 The careless callers are tests/c/warned_*.c, which mark each line that a compiler must warn about,
 and statements in this file that no compiler may accept.
@@ -50,9 +50,9 @@ COMPARISONS = Caller(
     "warned_comparisons.c",
     "comparison of constant",
 )
-SMALL_ROOM = Caller(
+SMALL_OUT = Caller(
     "an out that is too small",
-    "warned_rooms.c",
+    "warned_sizes.c",
     "writing 145 bytes into a region of size 64",
 )
 
@@ -79,6 +79,7 @@ def compiled_with_warnings(
 def warnings_by_line(result: Result, source: Path) -> dict[int, str]:
     """Returns a compiler's warning for each line of a file."""
     found: dict[int, str] = {}
+    # A compiler begins its message with the file, the line and the column.
     pattern = rf"^{re.escape(str(source))}:(\d+):\d+: (?:warning|error): (.*)$"
     for number, text in re.findall(pattern, result.stderr.decode(), re.MULTILINE):
         found[int(number)] = found.get(int(number), "") + text + "\n"
@@ -101,7 +102,7 @@ def assert_warned(caller: Caller, result: Result) -> None:
 
 @ALL_COMPILERS
 @pytest.mark.parametrize("caller", [IGNORED_RESULTS, NULL_POINTERS, COMPARISONS], ids=str)
-def test_a_compiler_warns_of(
+def test_a_compiler_warns_about(
     installed: Installed, tmp_path: Path, compiler: str, caller: Caller
 ) -> None:
     assert_warned(
@@ -112,26 +113,34 @@ def test_a_compiler_warns_of(
 @pytest.mark.parametrize(
     "compiler", [pytest.param(name, marks=pytest.mark.needs(name)) for name in ("gcc", "g++")]
 )
-def test_gcc_warns_of_an_out_that_is_too_small(
+def test_gcc_warns_about_an_out_that_is_too_small(
     installed: Installed, tmp_path: Path, compiler: str
 ) -> None:
     assert_warned(
-        SMALL_ROOM,
-        compiled_with_warnings(compiler, SMALL_ROOM.path, installed, tmp_path / "caller"),
+        SMALL_OUT,
+        compiled_with_warnings(compiler, SMALL_OUT.path, installed, tmp_path / "caller"),
     )
+
+
+# Calls that only return a message, a name, a number or a struct.
+MAY_BE_IGNORED = {
+    "mkpasswd_message",
+    "mkpasswd_message_bytes",
+    "mkpasswd_scheme_name",
+    "mkpasswd_scheme_name_bytes",
+    "mkpasswd_version",
+    "mkpasswd_password",
+    "mkpasswd_password_bytes",
+    "mkpasswd_field",
+    "mkpasswd_field_bytes",
+}
 
 
 def test_the_file_of_ignored_results_has_each_call_that_can_fail(installed: Installed) -> None:
-    """Calls that only return a text, a number or a struct may be ignored."""
     text = IGNORED_RESULTS.path.read_text(encoding="ascii")
     ignored = re.findall(rf"(mkpasswd_\w+)\(.*{re.escape(MARK)}", text)
     calls = {*installed.exported(), *installed.inline()}
-    names = (
-        *("message", "message_bytes", "scheme_name", "scheme_name_bytes", "version"),
-        *("password", "password_bytes", "field", "field_bytes"),
-    )
-    may_be_ignored = {f"mkpasswd_{name}" for name in names}
-    assert sorted(ignored) == sorted(calls - may_be_ignored)
+    assert sorted(ignored) == sorted(calls - MAY_BE_IGNORED)
 
 
 @ALL_COMPILERS

@@ -77,21 +77,21 @@ def memory_of(process: subprocess.Popen[bytes]) -> Memory:
     found = {}
     with open(f"/proc/{process.pid}/mem", "rb", buffering=0) as memory:
         for first, end in re.findall(r"^(\w+)-(\w+) rw.p", maps, re.MULTILINE):
-            start = int(first, 16)
+            start, size = int(first, 16), int(end, 16) - int(first, 16)
             memory.seek(start)
-            found[start] = memory.read(int(end, 16) - start)
+            found[start] = memory.read(size)
     return found
 
 
 def changed_runs(old: bytes, new: bytes) -> list[bytes]:
-    """Returns the runs of bytes that differ, as the exclusive or of old and new."""
+    """Returns each run of enough bytes that differ, as the exclusive or of old and new."""
     if old == new:
         return []
     size = max(len(old), len(new))
-    difference = int.from_bytes(old.ljust(size, b"\0"), "big") ^ int.from_bytes(
-        new.ljust(size, b"\0"), "big"
-    )
-    return re.findall(rb"[^\0]{%d,}" % LEAST_FOUND, difference.to_bytes(size, "big"))
+    old_number = int.from_bytes(old.ljust(size, b"\0"), "big")
+    new_number = int.from_bytes(new.ljust(size, b"\0"), "big")
+    difference = (old_number ^ new_number).to_bytes(size, "big")
+    return re.findall(rb"[^\0]{%d,}" % LEAST_FOUND, difference)
 
 
 def assert_nothing_left(residue: Path, words: list[str | bytes], env: Changes | None) -> None:

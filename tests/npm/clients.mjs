@@ -31,7 +31,8 @@ async function askForHealth() {
 }
 
 const asked = askForHealth();
-const expected = Array.from({ length: CLIENTS }, (_, number) => (number % 4 ? 'in' : 'out'));
+const isFourth = (number) => number % 4 === 0;
+const expected = Array.from({ length: CLIENTS }, (_, number) => (isFourth(number) ? 'out' : 'in'));
 const logins = expected.map((answer) => ask('/login', answer === 'in' ? 'correct horse' : 'wrong'));
 const answers = await Promise.all(logins);
 isDone = true;

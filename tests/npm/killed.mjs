@@ -25,7 +25,7 @@ const later = await Promise.all([
     loginAsync('passwort', stored),
 ]);
 const refused = await Promise.allSettled([
-    hashAsync('x'.repeat(169)),
+    hashAsync('x'.repeat(169)), // one byte too long
     hashAsync(5),
     loginAsync('x', 5),
     loginAsync('x'),

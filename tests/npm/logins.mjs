@@ -1,10 +1,11 @@
-// Reads rows as JSON, [password, field]. Reports for each the results of a policy's login,
-// loginAsync, verify, needsRehash, describe and passwordProblem, how many digests login computed
-// according to the module's reports, its new hash, and whether the module's memory is as it was
-// before the first call. tests/web/test_npm.py has the expected reports.
+// Reads rows as JSON, [password, field]. Reports for each row what a policy's login, verify,
+// needsRehash, describe and passwordProblem return, and whether loginAsync returns the same as
+// login. Also reports how many digests login computed, by the module's reports, its new hash, and
+// whether the module's memory is as before the first call. tests/web/test_npm.py has what is
+// expected.
 import { readFileSync } from 'node:fs';
 
-const PLACE_OF_DIGESTS = 40; // the offset in a report
+const OFFSET_OF_DIGESTS = 40; // in the report of mkpasswd.h
 const WITHOUT_REPORT = ['web_scheme_name', 'web_message', 'web_need', 'web_login_need'];
 const memories = []; // of the permanent instance, and then of those with memory for scrypt
 let digests = 0n;
@@ -17,8 +18,9 @@ WebAssembly.Instance = function (compiled) {
     function counting(call) {
         return (...words) => {
             const result = call(...words);
-            const report = new DataView(exports.memory.buffer, Number(words.at(-1)));
-            digests += report.getBigUint64(PLACE_OF_DIGESTS, true);
+            const addressOfReport = Number(words.at(-1));
+            const report = new DataView(exports.memory.buffer, addressOfReport);
+            digests += report.getBigUint64(OFFSET_OF_DIGESTS, true);
             return result;
         };
     }

@@ -1,4 +1,4 @@
-// Reports, by title, which policy or error each of these values gives.
+// Reports, by title, which policy or error each of VALUES gives, and what is wrong with PASSWORDS.
 import { Policy, limit, passwordProblem } from 'mkpasswd';
 
 class Config {
@@ -46,11 +46,25 @@ function outcomeOf(value) {
     }
 }
 
-const policies = Object.entries(VALUES).map(([title, value]) => [title, outcomeOf(value)]);
-const problems = ['', 'x'.repeat(168), 'x'.repeat(169), 'x'.repeat(2000), 'x\0', '\ud83d', '🐎'];
+const PASSWORDS = {
+    'the empty password': '',
+    '168 bytes': 'x'.repeat(168),
+    '169 bytes': 'x'.repeat(169),
+    '2000 bytes': 'x'.repeat(2000),
+    'a zero byte': 'x\0',
+    'half of an emoji': '\ud83d',
+    'a horse': '🐎',
+};
+
+// Returns an object with the same titles, and what a function returns for each value.
+function mapped(values, call) {
+    const pairs = Object.entries(values).map(([title, value]) => [title, call(value)]);
+    return Object.fromEntries(pairs);
+}
+
 console.log(JSON.stringify({
-    policies: Object.fromEntries(policies),
+    policies: mapped(VALUES, outcomeOf),
     limit,
-    problems: problems.map((password) => passwordProblem(password)),
+    problems: mapped(PASSWORDS, passwordProblem),
     ofNoPolicy: new Policy({ rounds: 1000, budget: 5 }).passwordProblem(''),
 }));

@@ -22,7 +22,7 @@ async function until(test) {
 
 // ---- The clock
 
-const clock = { now: 0, timers: [] };
+const clock = { now: 0, timers: [] }; // in milliseconds
 performance.now = () => clock.now;
 globalThis.setTimeout = (call, milliseconds) => {
     clock.timers.push({ moment: clock.now + milliseconds, call });
@@ -66,15 +66,17 @@ async function timesOfFailures() {
     return { early, count: moments.length, moments: different(moments) };
 }
 
-// Reports when failures are answered whose hashing ends at 250 ms, two and a half times their time.
+// Reports when failures are answered whose hashing takes two and a half times their failureTime.
 async function timesOfLateFailures() {
+    const failureTime = 100;
+    const nextMultiple = 3 * failureTime;
     clock.now = 0;
     const logins = Array(15).fill(['wrong', stored]);
-    const queue = new LoginQueue({ policy, failureTime: 100 });
-    const moments = await failing(queue, logins, () => { clock.now = 250; });
-    await advance(299);
+    const queue = new LoginQueue({ policy, failureTime });
+    const moments = await failing(queue, logins, () => { clock.now = 2.5 * failureTime; });
+    await advance(nextMultiple - 1);
     const early = moments.length;
-    await advance(300);
+    await advance(nextMultiple);
     return { early, count: moments.length, moments: different(moments) };
 }
 
@@ -88,6 +90,8 @@ async function besideFailures() {
     return { result, waiting };
 }
 
+// Reports which calls a queue for two calls refuses while both places are taken, and the result of
+// a login once one call is answered and the other, a failure, only waits for its time.
 async function full() {
     const { login, hash } = new LoginQueue({ policy, failureTime: 100_000, size: 2 });
     const first = [login('wrong', stored), login(password, stored)];
@@ -100,23 +104,32 @@ async function full() {
     return { refused, later: await login('password', later) };
 }
 
-const OPTIONS = [
-    5,
-    null,
-    [],
-    new Map(),
-    { failuretime: 5 },
-    { failureTime: '5' },
-    { failureTime: -1 },
-    { size: 0 },
-    { size: Infinity },
-    { policy: {} },
-];
+const OPTIONS = {
+    'a number': 5,
+    'null': null,
+    'a list': [],
+    'a map': new Map(),
+    'another key': { failuretime: 5 },
+    'a string as time': { failureTime: '5' },
+    'a time below 0': { failureTime: -1 },
+    'a size of 0': { size: 0 },
+    'an infinite size': { size: Infinity },
+    'another object as policy': { policy: {} },
+};
+
+// Reports, by title, what a queue with these options gives.
+async function refusedOptions() {
+    const outcomes = {};
+    for (const [title, options] of Object.entries(OPTIONS)) {
+        outcomes[title] = await outcomeOf(() => new LoginQueue(options));
+    }
+    return outcomes;
+}
 
 console.log(JSON.stringify({
     failures: await timesOfFailures(),
     late: await timesOfLateFailures(),
     beside: await besideFailures(),
     full: await full(),
-    options: await Promise.all(OPTIONS.map((given) => outcomeOf(() => new LoginQueue(given)))),
+    options: await refusedOptions(),
 }));

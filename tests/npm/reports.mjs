@@ -1,5 +1,6 @@
-// Makes all calls inside the module report the same, an error of a newer module or zeros. Prints
-// what the package's calls then return. The arguments are the result and the error in the report.
+// Lets each call inside the module return the same number, and report an error and zeros. Prints
+// what the package's calls then return. The arguments are that number, and the number of the error,
+// which only a newer module may have.
 const [returned, error] = process.argv.slice(2).map(Number);
 const REPORT_SIZE = 80;
 const WITHOUT_REPORT = ['web_scheme_name', 'web_message', 'web_need', 'web_login_need'];
@@ -17,7 +18,10 @@ WebAssembly.Instance = function (compiled) {
     const memory = exports.memory.buffer;
 
     function lying(call) {
-        return (...words) => (isLying ? lieInto(memory, Number(words.at(-1))) : call(...words));
+        return (...words) => {
+            const addressOfReport = Number(words.at(-1));
+            return isLying ? lieInto(memory, addressOfReport) : call(...words);
+        };
     }
     const calls = Object.entries(exports)
         .filter(([name]) => name.startsWith('web_') && !WITHOUT_REPORT.includes(name))

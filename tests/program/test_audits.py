@@ -24,10 +24,11 @@ SHA256 = b"$5$rounds=656000$ab$OPbOPv7dVBLpN3R.bhm45g.TZiUJo/hpodcbU1pIYG/"
 MD5 = b"$1$xxxxxxxx$UYCIxa628.9qXjpQCjM4a."
 SCRYPT = SCRYPT_AT_DEFAULT
 
-# Dummy hashes.
-SCRYPT_DEAR = b"$7$" + ScryptCost(15, 32, 1).text + b"ab$" + b"a" * 42 + b"."
-SCRYPT_AT_LIMIT = b"$7$" + ScryptCost(14, 39, 1).text + b"aaaaa$" + b"a" * 42 + b"."
-SCRYPT_DEAREST = b"$7$" + ScryptCost(18, 32, 1).text + b"a" * 86  # the cost of -R 11
+# Dummy hashes: settings, most of them with a digest that no password has.
+DIGEST_OF_SCRYPT = b"a" * 42 + b"."
+SCRYPT_EXPENSIVE = b"$7$" + ScryptCost(15, 32, 1).text + b"ab$" + DIGEST_OF_SCRYPT
+SCRYPT_AT_LIMIT = b"$7$" + ScryptCost(14, 39, 1).text + b"aaaaa$" + DIGEST_OF_SCRYPT
+SCRYPT_MOST_EXPENSIVE = b"$7$" + ScryptCost(18, 32, 1).text + b"a" * 86  # the cost of -R 11
 SHA512_MOST_ROUNDS = b"$6$rounds=999999999$ab$x"
 SHA512_MOST_ROUNDS_LONGEST_SALT = b"$6$rounds=999999999$aaaaaaaaaaaaaaaa"
 
@@ -36,11 +37,9 @@ OF_SHA512 = "sha512crypt:656000:COST"
 OF_SHA256 = "sha256crypt:656000:COST"
 OF_MD5 = "md5crypt:1000:COST"
 OF_SCRYPT = "scrypt:16384/32/1:COST"
-OF_SCRYPT_DEAR = "scrypt:32768/32/1:268461988"
+OF_SCRYPT_EXPENSIVE = "scrypt:32768/32/1:268461988"
 
 COST_OF_SHA512 = cost(read_setting(SHA512), LONGEST_PASSWORD)
-
-Options = list[Word]
 
 
 @dataclass(frozen=True)
@@ -108,37 +107,41 @@ BY_BUDGETS = [
     ),
     Audit(
         "the highest cost of scrypt by the default policy",
-        SCRYPT_DEAREST,
+        SCRYPT_MOST_EXPENSIVE,
         "scrypt:262144/32/1:COST:over budget",
     ),
     Audit(
         "the highest cost of scrypt as the policy",
-        SCRYPT_DEAREST,
+        SCRYPT_MOST_EXPENSIVE,
         "scrypt:262144/32/1:COST:dead",
         ("-m", "scrypt", "-R", 11),
     ),
 ]
 # Without --budget, even checking the empty password must stay within the limit of a login. It costs
-# 268460964 with the first hash here. With the second hash it costs 163609376, which is the limit
-# for 422664 rounds.
+# 268460964 with SCRYPT_EXPENSIVE, and 163609376 with SCRYPT_AT_LIMIT, which is the limit for 422664
+# rounds.
 BY_THE_LIMIT_OF_A_LOGIN = [
-    Audit("dear scrypt by the default policy", SCRYPT_DEAR, f"{OF_SCRYPT_DEAR}:over budget"),
     Audit(
-        "dear scrypt by a low cost",
-        SCRYPT_DEAR,
-        f"{OF_SCRYPT_DEAR}:over budget",
+        "expensive scrypt by the default policy",
+        SCRYPT_EXPENSIVE,
+        f"{OF_SCRYPT_EXPENSIVE}:over budget",
+    ),
+    Audit(
+        "expensive scrypt by a policy of low cost",
+        SCRYPT_EXPENSIVE,
+        f"{OF_SCRYPT_EXPENSIVE}:over budget",
         ("-m", "scrypt", "-R", 6),
     ),
     Audit(
-        "dear scrypt by the usual cost",
-        SCRYPT_DEAR,
-        f"{OF_SCRYPT_DEAR}:current",
+        "expensive scrypt by a policy of the usual cost",
+        SCRYPT_EXPENSIVE,
+        f"{OF_SCRYPT_EXPENSIVE}:current",
         ("-m", "scrypt"),
     ),
     Audit(
-        "dear scrypt with its cost as the budget",
-        SCRYPT_DEAR,
-        f"{OF_SCRYPT_DEAR}:outdated",
+        "expensive scrypt with its cost as the budget",
+        SCRYPT_EXPENSIVE,
+        f"{OF_SCRYPT_EXPENSIVE}:outdated",
         ("--budget", 268461988),
     ),
     Audit(
@@ -154,7 +157,8 @@ BY_THE_LIMIT_OF_A_LOGIN = [
         ("-R", 422663),
     ),
 ]
-# The last character of a hash encodes two or four bits.
+# The last character of a hash encodes only two or four bits of the digest. So several characters
+# stand for the same digest, and others for none.
 BY_THE_LAST_CHARACTER = [
     Audit("sha512crypt with the last 1", SHA512[:-1] + b"1", f"{OF_SHA512}:current"),
     Audit("sha512crypt with the last 2", SHA512[:-1] + b"2", f"{OF_SHA512}:dead"),
@@ -258,12 +262,13 @@ MALFORMED = [
 WITH_STATUS_0 = ("current", "locked", "unknown")
 
 
-def assert_finding(program: Path, audit: Audit, more_options: Options) -> None:
-    """Fails unless an audit has the finding for each of three lines.
+def assert_finding(program: Path, audit: Audit, more_options: list[Word]) -> None:
+    """Fails unless an audit has the finding for a bare field, and for longer lines with this field.
 
-    They have a bare field, a shadow entry, and a last colon without a line feed.
+    The last line has no line feed.
     """
-    given = b"ann:%b\nbob:%b:19000:0:99999:7:::\neve:%b:" % ((audit.field,) * 3)
+    field = audit.field
+    given = b"ann:%b\nbob:%b:19000:0:99999:7:::\neve:%b:" % (field, field, field)
     answers = [f"{name}:{audit.expected}\n" for name in ("ann", "bob", "eve")]
     status = 0 if audit.finding.endswith(WITH_STATUS_0) else 1
     result = run(program, "--audit", *audit.options, *more_options, stdin=given)

@@ -105,6 +105,7 @@ THIRD_VECTOR = b"$7$C6..../....SodiumChloride$kBGj9fHznVYFQMEn/qDCfrDevf9YDtcDdK
 LINE_OF_16_MIB = b"ann:%b:password\n" % SCRYPT_OF_16_MIB
 LINE_OF_64_MIB = b"ann:%b:password\n" % SCRYPT_AT_DEFAULT
 METHODS = b"Available methods:\nmd5crypt\nsha256crypt\nsha512crypt\nscrypt\n"
+# Patterns of hashes.
 FORM_OF_MD5 = r"\$1\$[./0-9A-Za-z]{8}\$[./0-9A-Za-z]{22}\n"
 FORM_OF_SHA512 = r"\$6\$[./0-9A-Za-z]{16}\$[./0-9A-Za-z]{86}\n"
 
@@ -120,7 +121,7 @@ class Mode:
     form: str = ""  # a pattern for the output, if it isn't known in full
     stderr: bytes = b""
     status: int = 0
-    makes_hashes: bool = True  # if so, it draws a seed
+    makes_hashes: bool = True  # and therefore draws a seed
     draws_salt: bool = False
     allocations_after_an_answer: int = 0
 
@@ -233,17 +234,20 @@ MODES = [
 def test_without_a_fault_each_mode_prints_its_answers(tracer: Tracer, mode: Mode) -> None:
     whole = tracer.run(mode.words, mode.given)
     mode.assert_result(whole.result)
-    assert whole.count("memory") > 0, "it must allocate memory"
-    assert whole.count("write") > 0, "it must write"
-    assert (whole.count("read") > 0) == (mode.given != b""), "it must read only if it has input"
-    assert whole.count("random") == int(mode.makes_hashes), "it must draw one seed if it hashes"
+    assert whole.count("memory") > 0, "the program must allocate memory"
+    assert whole.count("write") > 0, "the program must write"
+    reads, has_input = whole.count("read") > 0, mode.given != b""
+    assert reads == has_input, "the program must read exactly if it has input"
+    seeds = 1 if mode.makes_hashes else 0
+    assert whole.count("random") == seeds, "the program must draw one seed exactly if it hashes"
 
 
 def assert_named(mode: Mode, kind: str, traced: Traced, whole: bytes) -> None:
     """Fails unless a run named its fault, and printed a prefix of a successful run's output."""
     result = traced.result
-    has_no_message = kind == "write" and mode.status == 2
-    status, message = (2, b"") if has_no_message else (3, MESSAGES[kind])
+    has_no_message = kind == "write" and mode.status == 2  # the arguments are refused
+    status = 2 if has_no_message else 3
+    message = b"" if has_no_message else MESSAGES[kind]
     assert traced.has_failed_call, f"no call failed\n{result}"
     assert result.status == status, f"expected status: {status}\n{result}"
     assert result.stderr.endswith(message), f"expected stderr: ..{printable(message)}\n{result}"
@@ -311,13 +315,22 @@ def test_reads_and_writes_may_transfer_one_byte_each(tracer: Tracer, mode: Mode)
 
 # ---- Memory
 
-# With N = 2^14 and p = 1, scrypt allocates a table of 128 N r bytes unless it can reuse one, then
-# 128 r p bytes for blocks, and 256 r bytes to mix them. Nothing else allocates memory for a line.
-BEFORE_TABLE = 2097152
-BEFORE_PARTS = 16
-WITH_R_32 = [BEFORE_TABLE + 67108864, BEFORE_PARTS + 4096, BEFORE_PARTS + 8192]
-WITH_R_8 = [BEFORE_TABLE + 16777216, BEFORE_PARTS + 1024, BEFORE_PARTS + 2048]
-WITH_R_8_IN_A_KEPT_TABLE = WITH_R_8[1:]
+BEFORE_TABLE = 2 << 20  # bytes that c/heap.c allocates in front of a table, to align it
+BEFORE_PARTS = 16  # bytes that it allocates in front of a smaller block
+
+
+def allocations_of(*, r: int) -> list[int]:
+    """Returns the sizes of scrypt's allocations with N = 2^14 and p = 1.
+
+    They are a table of 128 N r bytes unless scrypt can reuse one, 128 r p bytes for blocks, and
+    256 r bytes to mix them. Nothing else allocates memory for a line.
+    """
+    return [BEFORE_TABLE + 128 * 2**14 * r, BEFORE_PARTS + 128 * r, BEFORE_PARTS + 256 * r]
+
+
+WITH_R_32 = allocations_of(r=32)
+WITH_R_8 = allocations_of(r=8)
+WITH_R_8_IN_A_REUSED_TABLE = WITH_R_8[1:]
 SHA256 = b"$5$xxxxxxxx$hP8Y3v5H039Gm6oEwYeXGQOqaUqXVrVPKrFK.zAzZPA"
 REFUSED_LINES = b"".join(
     [
@@ -352,7 +365,7 @@ def allocated(tracer: Tracer, words: list[Word], given: bytes, status: int) -> l
             ["--check"],
             LINE_OF_16_MIB * 2 + LINE_OF_64_MIB + LINE_OF_16_MIB,
             0,
-            [*WITH_R_8, *WITH_R_8_IN_A_KEPT_TABLE, *WITH_R_32, *WITH_R_8],
+            [*WITH_R_8, *WITH_R_8_IN_A_REUSED_TABLE, *WITH_R_32, *WITH_R_8],
             id="checks by scrypt, the second with the first one's table",
         ),
         pytest.param(
@@ -432,17 +445,20 @@ def test_with_little_memory_the_static_program_does_what_it_can() -> None:
 
 # ---- Reads and writes
 
+BLOCK = 512  # bytes that the program reads at once
+
 
 def expected_calls(given: list[bytes], answers: list[tuple[int, bytes]]) -> list[Call]:
-    """Returns the calls that are due: reads of 512 bytes, and each answer once its line is read."""
+    """Returns the calls that are due: reads of blocks, and each answer once its line is read."""
+    a_read = Call("read", BLOCK, 0)
     calls, length, read = [], 0, 0
     for line, (descriptor, text) in zip(given, answers):
         length += len(line)
         while read < length:
-            calls.append(Call("read", 512, 0))
-            read += 512
+            calls.append(a_read)
+            read += BLOCK
         calls.append(Call("write", len(text), descriptor))
-    return [*calls, Call("read", 512, 0)]
+    return [*calls, a_read]
 
 
 def test_each_answer_and_each_message_is_one_write_once_its_line_is_read(tracer: Tracer) -> None:

@@ -1,4 +1,4 @@
-"""The program answers lines: random ones, many from an open pipe, and some to closed outputs.
+"""How the program answers lines: random ones, many from an open pipe, and some to closed outputs.
 
 test_audits.py tests audits.
 """
@@ -9,7 +9,6 @@ import os
 import re
 import subprocess
 import threading
-from dataclasses import dataclass
 from pathlib import Path
 from typing import IO, Iterator
 
@@ -21,7 +20,7 @@ from support.random_lines.chunks import Chunk, chunks, tasks
 
 SEED = int(os.environ.get("SEED", "1"))
 MOST_MEMORY = 8192  # kB
-MANY = 20_000
+MANY = 20_000  # lines
 
 
 @pytest.mark.parametrize("chunk", chunks("hash", 1000) + chunks("hostile", 2500), ids=str)
@@ -37,27 +36,23 @@ def test_random_lines_get_the_answers_of_the_model(program: Path, chunk: Chunk) 
 # ---- Pipes
 
 
-@dataclass(frozen=True)
-class StoredFields:
-    """The fields of a long run of lines, with the password "password"."""
-
-    md5crypt = crypt(b"password", b"$1$xxxxxxxx")
-    # Shows that scrypt can still allocate memory after millions of digests.
-    scrypt = crypt(b"password", b"$7$2/..../....ab")
-    locked = b"!" + b"x" * 900
-
-
+# The fields of a long run of lines. A hash of scrypt shows that scrypt can still allocate memory
+# after millions of digests.
+OF_MD5CRYPT = crypt(b"password", b"$1$xxxxxxxx")
+OF_SCRYPT = crypt(b"password", b"$7$2/..../....ab")
+LOCKED = b"!" + b"x" * 900
 NAME = b"n" * 58  # long enough for more than a MiB of answers, which fills each buffer
 
 
 def numbered_line(number: int) -> tuple[bytes, bytes]:
     """Returns a line and its answer. All lines together need twice the allowed memory."""
-    field, verdict = StoredFields.locked, b"locked"
+    field, verdict = LOCKED, b"locked"
     if number % 10 == 0:
-        field, verdict = StoredFields.md5crypt, b"ok"
+        field, verdict = OF_MD5CRYPT, b"ok"
     if number % 1000 == 0:
-        field = StoredFields.scrypt
-    return b"%b%d:%b:password\n" % (NAME, number, field), b"%b%d:%b\n" % (NAME, number, verdict)
+        field = OF_SCRYPT
+    name = b"%b%d" % (NAME, number)
+    return b"%b:%b:password\n" % (name, field), b"%b:%b\n" % (name, verdict)
 
 
 def write_and_ignore_a_closed_pipe(pipe: IO[bytes], lines: Iterator[bytes]) -> None:
@@ -79,12 +74,14 @@ def peak_of_memory(process: subprocess.Popen[bytes]) -> int:
 def test_each_line_is_answered_in_little_memory_while_the_pipe_is_open(program: Path) -> None:
     with started(program, "--check", stdin=subprocess.PIPE, stdout=subprocess.PIPE) as process:
         assert process.stdin is not None and process.stdout is not None
-        lines = (numbered_line(number)[0] for number in range(1, MANY + 1))
+        numbers = range(1, MANY + 1)
+        lines = (line for line, _ in map(numbered_line, numbers))
         arguments = (process.stdin, lines)
         writer = threading.Thread(target=write_and_ignore_a_closed_pipe, args=arguments)
         writer.start()
-        for number in range(1, MANY + 1):
-            assert process.stdout.readline() == numbered_line(number)[1], f"line {number}"
+        for number in numbers:
+            _, answer = numbered_line(number)
+            assert process.stdout.readline() == answer, f"line {number}"
         writer.join()
         is_built_program = "PROGRAM" not in os.environ
         if is_built_program:
@@ -105,7 +102,8 @@ def status_after_reader_left(
     assert process.stdin is not None
     process.stdin.write(line * 10)
     process.stdin.flush()
-    assert [output.readline() == b"" for _ in range(10)] == [False] * 10, "expected ten lines"
+    for _ in range(10):
+        assert output.readline() != b"", "expected ten lines"
     output.close()
     with contextlib.suppress(BrokenPipeError):
         process.stdin.write(line * 100_000)
@@ -120,7 +118,7 @@ def test_a_closed_output_is_a_write_fault_without_a_signal(program: Path, tmp_pa
     with (
         (tmp_path / "errors").open("w+b") as errors,
         started(
-            *(program, "--check"), stdin=subprocess.PIPE, stdout=subprocess.PIPE, stderr=errors
+            program, "--check", stdin=subprocess.PIPE, stdout=subprocess.PIPE, stderr=errors
         ) as process,
     ):
         assert process.stdout is not None
@@ -133,7 +131,7 @@ def test_a_closed_error_output_ends_the_run_without_a_signal(program: Path, tmp_
     with (
         (tmp_path / "answers").open("w+b") as answers,
         started(
-            *(program, "--check"), stdin=subprocess.PIPE, stdout=answers, stderr=subprocess.PIPE
+            program, "--check", stdin=subprocess.PIPE, stdout=answers, stderr=subprocess.PIPE
         ) as process,
     ):
         assert process.stderr is not None

@@ -21,8 +21,27 @@ MOST_SALT_OF_MD5CRYPT = 8
 MOST_SALT_OF_SHA_CRYPT = 16
 MOST_SALT_OF_SCRYPT = 86
 
-# Lengths in bytes around the ends of digests and blocks. libxcrypt accepts at most 511.
-EDGE_LENGTHS = (0, 1, 15, 16, 17, 31, 32, 33, 63, 64, 65, 127, 128, 129, 255, 256, 511)
+LONGEST_OF_LIBXCRYPT = 511  # bytes of a password
+# Lengths in bytes around the ends of digests and blocks.
+EDGE_LENGTHS = (
+    0,
+    1,
+    15,
+    16,
+    17,
+    31,
+    32,
+    33,
+    63,
+    64,
+    65,
+    127,
+    128,
+    129,
+    255,
+    256,
+    LONGEST_OF_LIBXCRYPT,
+)
 
 
 class Way(enum.Enum):
@@ -63,7 +82,7 @@ class Way(enum.Enum):
 
 @dataclass(frozen=True)
 class Hashing:
-    """A method and a cost as options, libxcrypt's setting for them, and the number of cases.
+    """A method and a cost as options, libxcrypt's setting for them, and how many cases are tried.
 
     The program raises rounds below 1000 to 1000. libxcrypt refuses them, so its setting has 1000.
     """
@@ -94,7 +113,7 @@ HASHINGS = [
     Hashing("scrypt -R 6", b"$7$" + ScryptCost(13, 32, 1).text, MOST_SALT_OF_SCRYPT, 17),
     Hashing("scrypt -R 8", b"$7$" + ScryptCost(15, 32, 1).text, MOST_SALT_OF_SCRYPT, 1),
 ]
-# A table of 1 GiB.
+# With a table of 1 GiB.
 HIGHEST_COST = Hashing("scrypt -R 11", b"$7$" + ScryptCost(18, 32, 1).text, MOST_SALT_OF_SCRYPT, 1)
 
 
@@ -117,14 +136,15 @@ def random_password(source: random.Random, length: int) -> bytes:
     password = b""
     while len(password) < length:
         one_byte = bytes([source.randint(1, 127)])
-        choices = [one_byte, "\u00e9".encode(), "\u20ac".encode()]
-        password += source.choice(choices[: length - len(password)])
+        two_bytes, three_bytes = "\u00e9".encode(), "\u20ac".encode()
+        missing = length - len(password)
+        password += source.choice([one_byte, two_bytes, three_bytes][:missing])
     return password
 
 
 def random_case(source: random.Random, longest_salt: int, number: int) -> Case:
     """Returns a case. Every second password has one of the edge lengths, in turn."""
-    length = source.randrange(512)
+    length = source.randrange(LONGEST_OF_LIBXCRYPT + 1)
     if number % 2 == 0:
         length = EDGE_LENGTHS[number // 2 % len(EDGE_LENGTHS)]
     salt = random_salt(source, source.randint(1, longest_salt))
@@ -157,7 +177,8 @@ def test_libxcrypt_gives_the_same_hash_with_the_highest_cost(program: Path) -> N
 @pytest.mark.parametrize(
     ("cost", "salt_length", "password_length"),
     [
-        # Many rows in a small table: as many as RFC 7914 allows with r = 1, and more with r = 2.
+        # First many rows in a small table: the most that RFC 7914 allows with r = 1, and more with
+        # r = 2.
         pytest.param(ScryptCost(15, 1, 1), 8, 8, id="N = 2^15 and r = 1"),
         pytest.param(ScryptCost(16, 2, 1), 22, 65, id="N = 2^16 and r = 2"),
         pytest.param(ScryptCost(17, 2, 1), 86, 511, id="N = 2^17 and r = 2"),

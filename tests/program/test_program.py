@@ -33,7 +33,7 @@ SHA512_TOO_LOW = (
 LONGEST = b"a" * LONGEST_PASSWORD
 LONG_WORD = "a" * 100_000  # takes more memory than any valid argument
 METHODS = b"Available methods:\nmd5crypt\nsha256crypt\nsha512crypt\nscrypt\n"
-DIGIT = rb"[./0-9A-Za-z]"
+DIGIT = rb"[./0-9A-Za-z]"  # of a salt or a digest
 
 
 def assert_refused_by_option_parser(result: Result, named: str) -> None:
@@ -113,10 +113,9 @@ def test_the_option_parser_refuses(program: Path, words: Words, named: str) -> N
 
 
 # As many arguments as the command accepts. Two of them are salts.
-ALL_WORDS: Words = [
-    *("-m", "md5", "-S", "ab", "-R", "5", "--work", "-s"),
-    *("--batch", "--check", "--audit", "--", "x", "cd"),
-]
+OPTIONS: Words = ["-m", "md5", "-S", "ab", "-R", "5", "--work", "-s"]
+MODES: Words = ["--batch", "--check", "--audit"]
+ALL_WORDS: Words = [*OPTIONS, *MODES, "--", "x", "cd"]
 
 
 def test_all_arguments_are_read(program: Path) -> None:
@@ -146,7 +145,8 @@ def test_the_longest_salt_is_accepted(program: Path, name: str) -> None:
     method = BY_NAME[name]
     salt = b"a" * method.longest_salt
     result = run(program, "-m", name, "-R", 6, "-S", salt, "x").required()
-    form = re.escape(method.prefix) + rb"(rounds=1000\$|[^$]{11})?" + salt + rb"\$%b+\n" % DIGIT
+    cost = rb"(rounds=1000\$|[^$]{11})?"  # SHA-crypt's rounds, scrypt's cost, or none
+    form = re.escape(method.prefix) + cost + salt + rb"\$%b+\n" % DIGIT
     assert re.fullmatch(form, result.stdout), result
 
 
@@ -364,7 +364,7 @@ HELLO_NEW = (
 EMPTY_SCRYPT = b"$7$2/..../....$rNxJWVHNv/mCNcgE/f6/L4zO6Fos5c2uTzhyzoisI62"
 OLD_SCRYPT = b"z:$7$86....E....NaCl$xffjQo7Bm/.SKRS4B2EuynbOLjAmXU5AbDbRXhoBl64:password\n"
 REHASH_TO_MD5: Words = ["--check", "--rehash", "--work", *MD5_WORDS]
-COST_OF_REHASH = 33693235
+COST_OF_REHASH = 33693235  # of a check of OLD_SCRYPT, and a new hash by REHASH_TO_MD5
 
 
 @pytest.mark.parametrize(
@@ -406,6 +406,7 @@ def test_lines_are_answered(program: Path, words: Words, given: bytes, answers: 
 @pytest.mark.parametrize(
     ("words", "given"),
     [
+        # Each budget is one less than what the line can cost.
         pytest.param(
             ["--check", "--budget", 89523813983],
             b"h:$6$rounds=999999999$saltstringsaltst$:password",
@@ -444,7 +445,7 @@ def test_lines_are_answered(program: Path, words: Words, given: bytes, answers: 
     ],
 )
 def test_a_budget_too_small_by_one_refuses(program: Path, words: Words, given: bytes) -> None:
-    """If the budget didn't refuse it, each of these lines would take minutes."""
+    """Some of these lines would take minutes if the budget didn't refuse them."""
     result = run(program, *words, stdin=given, timeout=30)
     assert_fault(result, 1, "line 1: over budget")
 
@@ -466,7 +467,7 @@ def test_a_budget_too_small_by_one_refuses(program: Path, words: Words, given: b
 def test_each_run_draws_another_salt(
     program: Path, words: Words, before_salt: bytes, length: int
 ) -> None:
-    """libxcrypt gives the same hash with the drawn salt."""
+    """Each hash must be libxcrypt's with the same salt."""
     form = re.escape(before_salt) + rb"(%b{%d})\$%b+\n" % (DIGIT, length, DIGIT)
     salts = []
     for _ in range(2):

@@ -16,6 +16,7 @@ from support.process import Result, assert_result, run
 MD5 = "$1$xxxxxxxx$UYCIxa628.9qXjpQCjM4a."
 THIRD_VECTOR = "$7$C6..../....SodiumChloride$kBGj9fHznVYFQMEn/qDCfrDevf9YDtcDdKvEqHJLV8D"
 MOST_ALLOCATIONS = 1000
+ALLOCATIONS_OF_SCRYPT = 3  # the table, and two scratch buffers
 
 
 @dataclass(frozen=True)
@@ -36,7 +37,7 @@ class Refuser:
     log: Path
 
     def run(self, words: list[str], given: str, refused: int) -> Refusal:
-        """Runs the program. The allocation with this number, counted from 1, fails."""
+        """Runs the program. The allocation with this number fails, counted from 1; 0 is none."""
         self.log.write_bytes(b"")
         environment = {
             "LD_PRELOAD": str(self.library),
@@ -73,15 +74,15 @@ def test_the_program_reports_each_failed_allocation_before_it_hashes(refuser: Re
 
 
 def test_lines_before_a_failed_allocation_are_answered(refuser: Refuser) -> None:
-    first = f"ann:{MD5}:password\n"
-    lines = f"{first}bob:{THIRD_VECTOR}:pleaseletmein\n"
-    before = refuser.run(["--check"], first, 0).allocations
-    for number in (1, 2, 3):
+    by_md5crypt = f"ann:{MD5}:password\n"
+    lines = f"{by_md5crypt}bob:{THIRD_VECTOR}:pleaseletmein\n"
+    before = refuser.run(["--check"], by_md5crypt, 0).allocations
+    for number in range(1, ALLOCATIONS_OF_SCRYPT + 1):
         refusal = refuser.run(["--check"], lines, before + number)
         assert refusal.was_refused
         assert_result(
             refusal.result, status=3, stdout=b"ann:ok\n", stderr=b"mkpasswd: out of memory\n"
         )
-    refusal = refuser.run(["--check"], lines, before + 4)
+    refusal = refuser.run(["--check"], lines, before + ALLOCATIONS_OF_SCRYPT + 1)
     assert not refusal.was_refused
     assert_result(refusal.result, stdout=b"ann:ok\nbob:ok\n")

@@ -18,7 +18,7 @@ CRATES = ROOT / "crates"
 LIST_OF_CRATES = re.sub(r"#.*", "", (ROOT / "crates.txt").read_text(encoding="utf-8"))
 DIGESTS = r"(md5|sha1|sha2)"
 IMPLEMENTATIONS_OF_COUNTED = "prims_core/src/counted/counted_"
-EXPORTED_CALL = r'\bextern "C" fn '
+EXPORTED_CALL = 'extern "C" fn '
 
 
 @dataclass(frozen=True)
@@ -75,9 +75,7 @@ def files_with_exported_calls() -> list[str]:
     names = {name_of(path): read(path) for path in source_files()}
     exporting = ("crypt_c/src/", "crypt_web/src/")
     return [
-        name
-        for name, text in names.items()
-        if name.startswith(exporting) and 'extern "C" fn' in text
+        name for name, text in names.items() if name.startswith(exporting) and EXPORTED_CALL in text
     ]
 
 
@@ -88,8 +86,12 @@ SCRYPT = "kdf_core/src/scrypt.rt"
 TABLES = ["prims_core/src/table.rt", "prims_core/src/scratch.rt"]
 ON_THE_WAY_TO_SCRYPT = [
     "crypt_c/src/",
-    *("crypt_core/src/hash.rt", "crypt_core/src/memory.rt", "crypt_core/src/fits.rt"),
-    *("run_core/src/one.rt", "run_core/src/lines.rt", "run_core/src/answer.rt"),
+    "crypt_core/src/hash.rt",
+    "crypt_core/src/memory.rt",
+    "crypt_core/src/fits.rt",
+    "run_core/src/one.rt",
+    "run_core/src/lines.rt",
+    "run_core/src/answer.rt",
 ]
 
 
@@ -130,7 +132,7 @@ ON_THE_WAY_TO_SCRYPT = [
             id="nothing that has a password implements Debug or Display",
         ),
         pytest.param(
-            r"\bimpl\b.*\b(Clone|Copy|Default) for (Meter)\b",
+            r"\bimpl\b.*\b(Clone|Copy|Default) for Meter\b",
             [],
             id="a meter doesn't implement Clone, Copy or Default",
         ),
@@ -142,6 +144,9 @@ def test_a_name_is_used_only_in_its_files(
     found = [line for line in code if re.search(pattern, line.code)]
     elsewhere = [str(line) for line in found if not line.path.startswith(tuple(places))]
     assert elsewhere == [], f"{pattern} may occur only in {places}"
+
+
+LINES_OF_ATTRIBUTES = 2  # the most in front of a type
 
 
 @pytest.mark.parametrize(
@@ -165,8 +170,9 @@ def test_traits_are_not_derived(traits: str, types: str) -> None:
         lines = read(path).split("\n")
         for number, line in enumerate(lines):
             if definition.search(line):
-                around = lines[max(0, number - 2) : number + 1]
-                found += [f"{name_of(path)}: {near}" for near in around if derivation.search(near)]
+                with_attributes = lines[max(0, number - LINES_OF_ATTRIBUTES) : number + 1]
+                derived = filter(derivation.search, with_attributes)
+                found += [f"{name_of(path)}: {attribute}" for attribute in derived]
     assert found == []
 
 
@@ -185,13 +191,13 @@ def test_implementations_of_counted_export_only_their_types() -> None:
 
 
 def test_2_to_the_40_reads_and_writes_are_allowed() -> None:
-    assert "\nconst TURNS: u64 = 1 << 40;\n" in read(CRATES / "program/src/main.rt")
+    assert "\nconst IO_CALL_LIMIT: u64 = 1 << 40;\n" in read(CRATES / "program/src/main.rt")
 
 
 def test_runs_call_inspect_for_each_complete_line(code: list[Line]) -> None:
     """The clauses alone would also allow a second function with the same rules."""
-    asks = r"if let Some\(fault\) = inspect\(kind, bytes\) \{"
-    found = [line.path for line in code if re.search(asks, line.code)]
+    inspection = "if let Some(fault) = inspect(kind, bytes) {"
+    found = [line.path for line in code if inspection in line.code]
     assert found == ["run_core/src/answer.rt"]
 
 
@@ -215,8 +221,10 @@ class Function:
 def functions_of_mix() -> list[Function]:
     """Returns the functions of mix.rt, without clauses and tests."""
     text = without_comments(read(CRATES / "prims_core/src/mix.rt"))
+    # A clause, with the deeper lines on which it goes on.
     text = re.sub(r"^ *(requires|ensures) .*(\n {8,}.*)*", "", text, flags=re.MULTILINE)
     text = re.sub(r"^mod tests.*", "", text, flags=re.MULTILINE | re.DOTALL)
+    # A function's name, and the text up to the next function.
     found = re.findall(r"\bfn (\w+)(.*?)(?=\bfn |\Z)", text, re.DOTALL)
     return [Function(name, body) for name, body in found]
 
@@ -229,22 +237,20 @@ def test_a_mixing_is_counted_once(function: Function) -> None:
     """
     mixings = re.findall(r"\b(?:block_mix|mix_\w+|mixed_block|salsa8\w*)\(", function.body)
     counted = re.findall(r"\bcount_mix\(", function.body)
-    if function.name in UNCOUNTED_STEPS:
-        expected = (1, 0)
-    elif re.search(r"\bMeter\b", function.body):
-        expected = (1, 1)
-    else:
-        expected = (0, 0)
-    assert (len(mixings), len(counted)) == expected
+    takes_meter = re.search(r"\bMeter\b", function.body) is not None
+    is_step = function.name in UNCOUNTED_STEPS
+    assert len(mixings) == (1 if is_step or takes_meter else 0)
+    assert len(counted) == (1 if takes_meter and not is_step else 0)
 
 
 def exported_calls() -> Iterator[Function]:
     """Yields the calls exported for C, the page and node, and each file's code before the first."""
     for name in files_with_exported_calls():
-        before, *calls = re.split(EXPORTED_CALL, without_comments(read(CRATES / name)))
+        before, *calls = without_comments(read(CRATES / name)).split(EXPORTED_CALL)
         yield Function(f"the code before the calls of {name}", before)
         for call in calls:
-            yield Function(call.split("(")[0], call)
+            name_of_call, _, _ = call.partition("(")
+            yield Function(name_of_call, call)
 
 
 @pytest.mark.parametrize("call", [pytest.param(call, id=call.name) for call in exported_calls()])

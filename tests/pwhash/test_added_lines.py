@@ -1,7 +1,6 @@
 """The shell's >> appends pwhash's output to a file, even if its last line has no line feed."""
 from __future__ import annotations
 
-
 import pytest
 from support.pwhash_runs import MD5CRYPT, hashed, read, save, shell
 

@@ -46,9 +46,10 @@ class Account:
         return self.row.split()[0]
 
 
-SHA512 = b"$6$rounds=656000$abcdefgh$"
+SHA512 = b"$6$rounds=656000$abcdefgh$"  # the setting
+DIGEST = b"a" * 85 + b"."
 ACCOUNTS = [
-    Account(b"ann:" + SHA512 + b"a" * 85 + b".:1:::", "ann sha512crypt 656000 current"),
+    Account(b"ann:" + SHA512 + DIGEST + b":1:::", "ann sha512crypt 656000 current"),
     Account(b"bob:" + SHA512 + b"short:1:::", "bob sha512crypt 656000 dead"),
     Account(b"old:" + MD5.encode() + b":1:::", "old md5crypt 1000 outdated"),
     Account(b"eve:$6$rounds=999999999$a$b:1:::", "eve sha512crypt 999999999 over budget"),
@@ -132,7 +133,7 @@ def test_the_systems_own_accounts_are_audited() -> None:
 
 
 PREFIXED = [
-    pytest.param(b"{SHA512-CRYPT}" + SHA512 + b"a" * 85 + b".", "current", id="Dovecot's"),
+    pytest.param(b"{SHA512-CRYPT}" + SHA512 + DIGEST, "current", id="Dovecot's"),
     pytest.param(b"{CRYPT}" + MD5.encode(), "outdated", id="LDAP's"),
     pytest.param(b"{crypt}" + SHA512 + b"short", "dead", id="in small letters"),
     pytest.param(b"{CRYPT}$6$rounds=999999999$a$b", "over budget", id="before a hostile hash"),
@@ -177,6 +178,7 @@ def test_comments_and_blank_lines_are_no_accounts() -> None:
 
 
 SECRET = "TopSecret1"
+# Lines without a name in its place.
 NOT_NAMES = [
     pytest.param(MD5, id="a bare hash"),
     pytest.param(f"{MD5}:ann", id="hash:name"),
@@ -188,7 +190,7 @@ NOT_NAMES = [
     pytest.param("abJnggxhB/yWI:ann", id="a hash of DES"),
     pytest.param("W6ph5Mm5Pz8GgiULbPgzG37mj9g=:ann", id="SHA-1 in Base64"),
     pytest.param(f"{SECRET}:ann", id="password:name"),
-    pytest.param(f"{SECRET}", id="a password"),
+    pytest.param(SECRET, id="a password"),
     pytest.param(f"ann,{SECRET}", id="a row with commas"),
     pytest.param(f"ann;{SECRET};https://example.org", id="a row with a colon in it"),
     pytest.param(f"ann\t{SECRET}:x", id="a row with tabs"),
@@ -237,4 +239,5 @@ def test_the_status_says_whether_there_is_a_problem(
 ) -> None:
     save("one", b"ann:" + field + b":1\n")
     assert pwhash("audit", *words, "one").status == status
-    assert (pwhash("audit", "--only-problems", "one").out != b"") == bool(status)
+    prints_a_problem = pwhash("audit", "--only-problems", "one").out != b""
+    assert prints_a_problem == (status == 1)

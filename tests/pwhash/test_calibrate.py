@@ -34,8 +34,10 @@ with needed("python3-pexpect"):
     import pexpect
 
 NUMBERS = {"sha512crypt": SHA512CRYPT, "sha256crypt": SHA256CRYPT, "scrypt": SCRYPT}
-LINE = re.compile(r"-m (\S+) -R (\d+) --budget (\d+)")
-CODE = re.compile(r"pwhash: \w+ in C (\{.*\}), in Python Policy(\(.*\))")
+# Matches a policy on standard output.
+LINE = re.compile(r"-m (?P<method>\S+) -R (?P<rounds>\d+) --budget (?P<budget>\d+)")
+# Matches the same policy on standard error, as code to paste.
+CODE = re.compile(r"pwhash: \w+ in C (?P<c>\{.*\}), in Python Policy(?P<python>\(.*\))")
 SPEED = '''\
 """A machine on which a cost of a billion takes ten seconds."""
 
@@ -45,7 +47,8 @@ def seconds_of_cost(*_):
 '''
 COST_OF_SECOND = 100_000_000
 FLOOR = 150_000_000  # the library's lowest default limit
-EVER = "999999s"
+LENGTH = 64  # of the passwords that a budget must admit
+LONGEST_TIME = "999999s"
 
 
 @pytest.fixture(scope="module", name="copy_with_speed")
@@ -81,7 +84,7 @@ def policy_in(line: str) -> Policy:
     """Reads the policy in a printed line."""
     found = LINE.fullmatch(line)
     assert found, line
-    return Policy(NUMBERS[found[1]], int(found[2]), int(found[3]))
+    return Policy(NUMBERS[found["method"]], int(found["rounds"]), int(found["budget"]))
 
 
 # ---- Rounds and budgets
@@ -106,7 +109,7 @@ def policy_in(line: str) -> Policy:
                 Policy(SHA256CRYPT, 430_000, 138_928_672),
                 Policy(SCRYPT, 6, 134_273_864),
             ],
-            id="a little below it",
+            id="a little below that floor",
         ),
         # The time allows a cost of 200,000,000. The budgets are the library's default limits for
         # these rounds; scrypt's is the floor.
@@ -117,16 +120,16 @@ def policy_in(line: str) -> Policy:
                 Policy(SHA256CRYPT, 610_000, 197_077_280),
                 Policy(SCRYPT, 6, FLOOR),
             ],
-            id="above it",
+            id="above that floor",
         ),
         pytest.param(
-            EVER,
+            LONGEST_TIME,
             [
                 Policy(SHA512CRYPT, 990_000_000, 383_177_161_120),
                 Policy(SHA256CRYPT, 990_000_000, 319_817_161_056),
                 Policy(SCRYPT, 11, 4_295_023_432),
             ],
-            id="the most",
+            id="the longest time",
         ),
     ],
 )
@@ -149,21 +152,26 @@ def test_more_time_never_gives_fewer_rounds_or_a_lower_budget(
         rounds, budget = policy.rounds, policy.budget
 
 
-@pytest.mark.parametrize("given", ["50ms", "300ms", "1.4s", "1.5s", "3s", EVER])
+@pytest.mark.parametrize("given", ["50ms", "300ms", "1.4s", "1.5s", "3s", LONGEST_TIME])
 def test_a_budget_is_the_librarys_limit_for_the_policy(copy_with_speed: Copy, given: str) -> None:
     """The budget admits a new hash of a 64-byte password. From FLOOR on, it needn't be given."""
     for policy in policies_in(answer(copy_with_speed, given).stdout):
         name = next(name for name, number in NUMBERS.items() if number == policy.method)
         limit = mkpasswd.Policy(name, policy.rounds, policy.budget).limit()
-        assert limit.cost == policy.budget and limit.longest_password >= 64, policy
-        assert new_cost(policy.method, policy.rounds, 64) <= policy.budget / 2, policy
+        assert limit.cost == policy.budget and limit.longest_password >= LENGTH, policy
+        assert new_cost(policy.method, policy.rounds, LENGTH) <= policy.budget / 2, policy
         if policy.budget >= FLOOR:
             assert mkpasswd.Policy(name, policy.rounds).limit().cost == policy.budget, policy
 
 
 @pytest.mark.parametrize(
     ("given", "method"),
-    [("3ms", "sha256crypt"), ("4ms", "sha512crypt"), ("1.3s", "scrypt"), ("0ms", "scrypt")],
+    [
+        pytest.param("3ms", "sha256crypt", id="sha256crypt"),
+        pytest.param("4ms", "sha512crypt", id="sha512crypt"),
+        pytest.param("1.3s", "scrypt", id="scrypt"),
+        pytest.param("0ms", "scrypt", id="no time"),
+    ],
 )
 def test_too_little_time_for_the_fewest_rounds_is_reported(
     copy_with_speed: Copy, given: str, method: str
@@ -180,6 +188,7 @@ def test_methods_that_take_longer_are_named_beside_the_others(copy_with_speed: C
     assert b"134,273,864" in done.stderr and b"1.4 s" in done.stderr, done
 
 
+# Each hash takes 5 ns for a unit of its cost. One takes 10 ns, except for a measurement of 90 ns.
 NOISY = """
 SECONDS = 1e-9
 MEASURED = {costly: iter([5e-9, 5e-9, 5e-9]) for costly in COSTLIEST}
@@ -203,12 +212,13 @@ def test_the_slowest_hash_counts_but_a_single_slow_measurement_does_not(copy: Co
 
 def test_a_printed_line_works_as_options(copy_with_speed: Copy) -> None:
     for line in answer(copy_with_speed, "1.4s").stdout.decode().splitlines():
-        done = pwhash(*line.split(), stdin=b"x" * 64 + b"\n")
+        done = pwhash(*line.split(), stdin=b"x" * LENGTH + b"\n")
         assert done.status == 0, done
-        done = pwhash("verify", *line.split(), stdin=b"x" * 64 + b"\n" + done.out)
+        done = pwhash("verify", *line.split(), stdin=b"x" * LENGTH + b"\n" + done.out)
         assert done.status == 0, done
 
 
+# Prints the limits of policies.
 LIMIT_OF = """
 #include "mkpasswd.h"
 #include <stdio.h>
@@ -233,15 +243,15 @@ def test_the_forms_for_c_and_python_have_the_same_limit(
 ) -> None:
     done = answer(copy_with_speed, given)
     expected = policies_in(done.stdout)
-    codes = CODE.findall(done.stderr.decode())
-    (folder / "limits.c").write_text(LIMIT_OF % ", ".join(code[0] for code in codes), "ascii")
+    codes = list(CODE.finditer(done.stderr.decode()))
+    (folder / "limits.c").write_text(LIMIT_OF % ", ".join(code["c"] for code in codes), "ascii")
     library = built("libmkpasswd.a", "lib")
     run(COMPILER, f"-I{ROOT}/c", "limits.c", library, "-o", "limits", cwd=folder).required()
     limits = run(folder / "limits").required().stdout.decode()
     lines = [f"{each.method} {each.rounds} {each.budget}\n" for each in expected]
     assert limits == "".join(lines), done
     for code, policy in zip(codes, expected):
-        limit = mkpasswd.Policy(*ast.literal_eval(code[1])).limit()
+        limit = mkpasswd.Policy(*ast.literal_eval(code["python"])).limit()
         assert (limit.rounds, limit.cost) == (policy.rounds, policy.budget), done
 
 
@@ -314,8 +324,10 @@ def test_an_invalid_time_is_refused_with_an_example(given: str) -> None:
     [
         pytest.param([], b"pwhash calibrate 300ms", id="no time"),
         pytest.param(["300ms", "2s"], b"a word too many", id="two times"),
-        pytest.param(["300ms", "-m", "md5crypt"], b"scrypt", id="a method without rounds"),
-        pytest.param(["300ms", "-m", "bcrypt"], b"scrypt", id="no method"),
+        pytest.param(
+            ["300ms", "-m", "md5crypt"], b"scrypt", id="a method that has no rounds to choose"
+        ),
+        pytest.param(["300ms", "-m", "bcrypt"], b"scrypt", id="a method that isn't supported"),
         pytest.param(["300ms", "--budget", "1M"], b"--budget", id="a budget"),
         pytest.param(["-300ms"], b"calibrate --help", id="a minus"),
     ],
@@ -335,14 +347,14 @@ def test_the_help_shows_how_a_time_is_written() -> None:
 
 def test_a_machine_is_measured() -> None:
     """No machine is too slow for the longest time, or fast enough for the shortest."""
-    done = pwhash("calibrate", EVER)
-    assert done.status == 0 and [each.rounds for each in policies_in(done.out)] == [
-        990_000_000,
-        990_000_000,
-        11,
-    ], done
+    done = pwhash("calibrate", LONGEST_TIME)
+    rounds = [policy.rounds for policy in policies_in(done.out)]
+    assert (done.status, rounds) == (0, [990_000_000, 990_000_000, 11]), done
     done = pwhash("calibrate", "0.000001ms")
     assert (done.status, done.out) == (1, b"") and done.err.count(b"takes longer") == 3, done
+
+
+MOST_SECONDS = 1.0  # from a signal to the end
 
 
 def test_a_signal_ends_a_calibration_at_once() -> None:
@@ -355,12 +367,12 @@ def test_a_signal_ends_a_calibration_at_once() -> None:
         assert done.status == -signal.SIGINT and done.out == b"", done
         return seconds
 
-    assert least_seconds(attempt, 1) <= 1
+    assert least_seconds(attempt, MOST_SECONDS) <= MOST_SECONDS
 
 
 def test_a_result_that_cannot_be_written_is_a_failure(hasty: Copy) -> None:
     to_full_device = ("/bin/sh", "-c", 'exec "$@" > /dev/full', "sh")
-    assert hasty.run("calibrate", EVER, before=to_full_device).status == 3
+    assert hasty.run("calibrate", LONGEST_TIME, before=to_full_device).status == 3
 
 
 @pytest.mark.parametrize("kibibytes", range(4000, 60000, 8000))

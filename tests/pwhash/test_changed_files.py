@@ -78,7 +78,7 @@ def change_a_line() -> None:
 
 def replace_by_an_old_file() -> None:
     save("new", users(SLOW_COUNT).replace(b"password1\n", b"PASSWORD1\n"))
-    os.utime("new", (1e9, 1e9))
+    os.utime("new", (1e9, 1e9))  # the times that halted_run() gave the list
     os.rename("new", "passwords")
 
 
@@ -97,7 +97,7 @@ def test_a_changed_file_makes_no_out(change: Callable[[], None]) -> None:
         done = go_on(process)
     assert done.status == 2 and not os.path.exists("hashes"), done
     assert b"passwords was changed" in done.err and b"remove hashes.part" in done.err, done
-    if b"--resume" in done.err:  # the advice must work
+    if b"--resume" in done.err:  # then the advice must work, which begins with a command
         touch = re.search(rb"touch -r \S+ \S+", done.err)
         assert touch, done
         subprocess.run(["/bin/sh", "-c", touch[0].decode().rstrip(":;")], check=True)
@@ -107,7 +107,7 @@ def test_a_changed_file_makes_no_out(change: Callable[[], None]) -> None:
 
 @pytest.mark.parametrize("number", [signal.SIGINT, signal.SIGTERM], ids=["Ctrl-C", "SIGTERM"])
 def test_a_run_does_not_resume_with_old_passwords(number: int) -> None:
-    """A line changes after it was hashed, and then the run is interrupted."""
+    """A line changes after pwhash has hashed it, and then the run is interrupted."""
     with halted_run() as process:
         size = os.path.getsize("hashes.part")
         change_a_line()
@@ -119,12 +119,12 @@ def test_a_run_does_not_resume_with_old_passwords(number: int) -> None:
     assert again.status == 2 and not os.path.exists("hashes"), again
 
 
-@pytest.mark.parametrize("redirected", [False, True], ids=["named", "redirected"])
-def test_a_changed_file_is_named_even_without_out(redirected: bool) -> None:
+@pytest.mark.parametrize("is_redirected", [False, True], ids=["named", "redirected"])
+def test_a_changed_file_is_named_even_without_out(is_redirected: bool) -> None:
     """pwhash once read lines that no version of the file had."""
     save("list", users(SLOW_COUNT))
     before = os.stat("list").st_mtime
-    script = 'exec "$@" < list > out' if redirected else 'exec "$@" list > out'
+    script = 'exec "$@" < list > out' if is_redirected else 'exec "$@" list > out'
     with halted("/bin/sh", "-c", script, "sh", PWHASH, "file", *SLOW, part="out") as process:
         save("list", users(SLOW_COUNT).replace(b"password", b"pass"))
         done = go_on(process)
@@ -137,16 +137,26 @@ def test_a_changed_file_is_named_even_without_out(redirected: bool) -> None:
         assert lines[number] == b"user%d:%b" % (number, expected)
 
 
+def replace_part() -> None:
+    save("other", b"")
+    os.rename("other", "hashes.part")
+
+
+def empty_list() -> None:
+    save("new", b"")
+    os.rename("new", "passwords")
+
+
 @pytest.mark.parametrize(
     "change",
     [
         pytest.param(lambda: os.remove("hashes.part"), id="removed"),
-        pytest.param(lambda: os.rename(save("other", b""), "hashes.part"), id="another file"),
-        pytest.param(lambda: os.rename(save("new", b""), "passwords"), id="an empty list instead"),
+        pytest.param(replace_part, id="another file"),
+        pytest.param(empty_list, id="an empty list instead"),
     ],
 )
 def test_a_replaced_part_or_list_makes_no_out(change: Callable[[], None]) -> None:
-    """Otherwise OUT would have only some of the users."""
+    """Otherwise OUT would lack some of the users."""
     with halted_run() as process:
         change()
         done = go_on(process)

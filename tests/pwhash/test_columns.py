@@ -2,13 +2,23 @@
 from __future__ import annotations
 
 import pytest
-from support.pwhash_runs import ANN, BOB, BY_NUMBER, MD5, MD5CRYPT, lines_named_in, pwhash, save
+from support.pwhash_runs import (
+    ANN,
+    BOB,
+    BOM,
+    BY_NUMBER,
+    MD5,
+    MD5CRYPT,
+    lines_named_in,
+    pwhash,
+    save,
+)
 
 
 @pytest.mark.parametrize(
     ("columns", "heading"),
     [
-        pytest.param("identità,parola", "Identità,Parola", id="a letter whose bytes end in A0"),
+        pytest.param("identità,parola", "Identità,Parola", id="a letter whose last byte is A0"),
         pytest.param("IDENTITÀ,PAROLA", "identità,parola", id="in capitals"),
         pytest.param("имя,пароль", "Имя,ПАРОЛЬ", id="Cyrillic"),
         pytest.param("straße,x", "STRASSE,x", id="folded"),
@@ -33,26 +43,40 @@ def test_one_column_is_not_both_name_and_password(columns: str) -> None:
     assert (done.status, done.out) == (2, b"") and b"--columns" in done.err, done
 
 
-def test_an_ambiguous_separator_is_not_guessed() -> None:
-    for row in b"smith,j;pw1\n", b"smith\tj,pw1\n", b"\nann;pa,ss\n":
-        done = pwhash("file", "--csv", *MD5CRYPT, *BY_NUMBER, stdin=row)
-        assert (done.status, done.out) == (2, b"") and b"between columns" in done.err, done
+@pytest.mark.parametrize(
+    "row",
+    [
+        pytest.param(b"smith,j;pw1\n", id="a comma and a semicolon"),
+        pytest.param(b"smith\tj,pw1\n", id="a tab and a comma"),
+        pytest.param(b"\nann;pa,ss\n", id="after a blank line"),
+    ],
+)
+def test_an_ambiguous_separator_is_not_guessed(row: bytes) -> None:
+    done = pwhash("file", "--csv", *MD5CRYPT, *BY_NUMBER, stdin=row)
+    assert (done.status, done.out) == (2, b"") and b"between columns" in done.err, done
+
+
+def test_the_separator_follows_from_a_quoted_field() -> None:
     done = pwhash("file", "--csv", *MD5CRYPT, *BY_NUMBER, stdin=b'"ann";pw1\nbob;pw2\n')
     assert (done.status, done.out) == (0, ANN + BOB), done
 
 
-def test_the_separator_is_the_one_between_name_and_password() -> None:
-    for heading in b"last,first;name;password", b"last;first\tname\tpassword":
-        between = heading[-9:-8]
-        row = between.join([b"x", b"ann", b"pw1"])
-        done = pwhash("file", "--csv", *MD5CRYPT, stdin=heading + b"\n" + row + b"\n")
-        assert (done.status, done.out) == (0, ANN), done
+@pytest.mark.parametrize(
+    "table",
+    [
+        pytest.param(b"last,first;name;password\nx;ann;pw1\n", id="a semicolon"),
+        pytest.param(b"last;first\tname\tpassword\nx\tann\tpw1\n", id="a tab"),
+    ],
+)
+def test_the_separator_is_the_one_between_name_and_password(table: bytes) -> None:
+    done = pwhash("file", "--csv", *MD5CRYPT, stdin=table)
+    assert (done.status, done.out) == (0, ANN), done
 
 
 # ---- Tables as programs write them
 
 BOTH = b"".join(name + b":" + MD5.encode() + b"\n" for name in (b"ann", b"bob"))
-EXCEL = b'\xef\xbb\xbfRoom;Password;Name\r\n1;"password";ann\r\n\r\n2;password;bob\r\n'
+EXCEL = BOM + b'Room;Password;Name\r\n1;"password";ann\r\n\r\n2;password;bob\r\n'
 TABS = b'"a,b"\tname\tpassword\nx,y;z\tann\tpassword\n\tbob\tpassword\n'
 SPANISH = "Usuario,Contraseña\nann,password\nbob,password\n".encode()
 
@@ -101,6 +125,54 @@ def test_a_heading_is_not_a_user_if_columns_are_numbers() -> None:
 def test_columns_that_cannot_be_found_are_named(table: bytes, words: tuple[str, ...]) -> None:
     done = pwhash("file", *MD5CRYPT, save("table", table), *words)
     assert done.status == 2 and b"--columns" in done.err and b"line 1" not in done.err, done
+
+
+HEADINGS = [
+    pytest.param(b"Login;Kennwort;Klasse", b"Login, Kennwort, Klasse", id="three headings"),
+    pytest.param(b"last,first,login,class", b"login and 3 more", id="one word of headings"),
+    pytest.param(b"Name,E-Mail,Room 5", b"Name, E-Mail and 1 more", id="a blank"),
+    pytest.param(
+        b"user,password,TopSecret1", b"user, password and 1 more", id="perhaps a password"
+    ),
+    pytest.param(b"name,name,password", b"name, name, password", id="a repeated heading"),
+]
+
+
+@pytest.mark.parametrize(("heading", "named"), HEADINGS)
+@pytest.mark.parametrize(
+    "words",
+    [
+        pytest.param(("--columns", "name,secret"), id="of passwords"),
+        pytest.param(("--generate", "--look", "--columns", "user-name"), id="of names"),
+    ],
+)
+def test_a_wrong_heading_is_answered_by_the_right_ones(
+    heading: bytes, named: bytes, words: tuple[str, ...]
+) -> None:
+    save("table", heading + b"\nann,bob,hunter2\n")
+    done = pwhash("file", "--csv", "table", *words)
+    assert (done.status, done.out) == (2, b"") and b"first row has " + named in done.err, done
+    assert b"hunter2" not in done.err and b"TopSecret" not in done.err, done
+
+
+@pytest.mark.parametrize(
+    "row",
+    [
+        pytest.param(b"ann,tulip", id="a name and a word"),
+        pytest.param(b"ann,password", id="a name and the password password"),
+        pytest.param(b"ann,TopSecret1", id="a name and a password"),
+        pytest.param(b"mail,tulip", id="a service's name and a word"),
+        pytest.param(b"tulip,ann,room", id="a password first"),
+    ],
+)
+def test_a_first_row_with_a_user_is_not_shown(row: bytes) -> None:
+    save("table", row + b"\nbob,hunter2\n")
+    for words in ("--columns", "login,secret"), ("--generate", "--look", "--columns", "user"):
+        done = pwhash("file", "--csv", "table", *words)
+        assert (done.status, done.out) == (2, b"") and b"hunter2" not in done.err, done
+        said = done.err.replace(b"by default name,password", b"")
+        values = (b"tulip", b"TopSecret", b"password", b" ann")
+        assert not any(value in said for value in values), done
 
 
 def test_a_first_row_that_is_not_csv_is_named_by_line() -> None:

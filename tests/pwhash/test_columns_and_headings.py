@@ -5,13 +5,19 @@ from __future__ import annotations
 import os
 
 import pytest
-from support.pwhash_runs import MD5, MD5CRYPT, hashed, lines_named_in, pwhash, read, save
+from support.pwhash_runs import (
+    ANN,
+    BOB,
+    MD5,
+    MD5CRYPT,
+    hashed,
+    lines_named_in,
+    pwhash,
+    read,
+    save,
+)
 
-ANN = b"ann:" + hashed(b"pw1") + b"\n"
-BOB = b"bob:" + hashed(b"pw2") + b"\n"
-
-
-# Swapped columns.
+# ---- Swapped columns
 
 EXCHANGED = [
     pytest.param("password,name", "name,password", id="both"),
@@ -31,8 +37,8 @@ EXCHANGED = [
 def test_columns_that_contradict_their_headings_are_refused(
     columns: str, heading: str, words: tuple[str, ...]
 ) -> None:
-    between = ";" if ";" in heading else ","
-    save("table", f"{heading}\nann{between}hunter2\n".encode())
+    separator = ";" if ";" in heading else ","
+    save("table", f"{heading}\nann{separator}hunter2\n".encode())
     options = ("--csv", "--columns", columns, "--skip-doubtful", "--skip-refused")
     done = pwhash("file", *MD5CRYPT, *options, "table", *words)
     assert (done.status, done.out) == (2, b"") and b"--columns" in done.err, done
@@ -62,7 +68,7 @@ def test_columns_that_fit_their_headings_are_hashed(columns: str, table: bytes) 
     assert (done.status, done.out) == (0, ANN), done
 
 
-# Headings of joined tables and lists.
+# ---- Headings of joined tables and lists
 
 
 @pytest.mark.parametrize(
@@ -80,34 +86,39 @@ def test_columns_that_fit_their_headings_are_hashed(columns: str, table: bytes) 
 def test_a_heading_in_another_language_is_not_a_user(heading: bytes, is_table: bool) -> None:
     lines = b"ann:pw1\n" + heading + b"\nbob:pw2\n"
     words: tuple[str, ...] = ()
+    line = 2
     if is_table:
         lines = b"name,password\n" + lines.replace(b":", b",")
         words = ("--csv",)
+        line = 3
     done = pwhash("file", *MD5CRYPT, *words, stdin=lines)
-    assert (done.status, done.out, lines_named_in(done.err)) == (1, ANN + BOB, [2 + is_table]), done
+    assert (done.status, done.out, lines_named_in(done.err)) == (1, ANN + BOB, [line]), done
 
 
 @pytest.mark.parametrize("words", [(), ("--csv", "--columns", "1,2")], ids=["list", "table"])
 def test_the_first_line_repeated_is_not_a_user(words: tuple[str, ...]) -> None:
-    """A repeated first line is a heading even if pwhash doesn't know its words."""
+    """A repeated first line is a heading even if pwhash doesn't know its words. Both are named."""
     lines = b"konto:geheim\nann:pw1\nkonto:geheim\nbob:pw2\n"
-    save("list", lines.replace(b":", b",") if words else lines)
+    is_table = "--csv" in words
+    save("list", lines.replace(b":", b",") if is_table else lines)
     done = pwhash("file", *MD5CRYPT, *words, "list")
     assert (done.status, done.out) == (1, b"") and lines_named_in(done.err) == [3, 1], done
 
 
-# Passwords that spreadsheets damaged.
+# ---- Passwords that spreadsheets damaged
 
-DAMAGED = [
-    *("#NAME?", "#REF!", "#VALUE!", "#DIV/0!", "#N/A", "#NULL!", "#NUM!"),
-    *("#BEZUG!", "#WERT!", "#ZAHL!", "#NV", "#NOM?", "#VALEUR!", "#¡REF!", "#¿NOMBRE?", "Err:502"),
-    *("####", "##########", "1.23E+15", "1,23E+15", "1E+20", "-1.5E-07", "2,5E10"),
-    *("TRUE", "FALSE", "WAHR", "FALSCH"),
-]
+ENGLISH_ERRORS = ["#NAME?", "#REF!", "#VALUE!", "#DIV/0!", "#N/A", "#NULL!", "#NUM!"]
+GERMAN_ERRORS = ["#BEZUG!", "#WERT!", "#ZAHL!", "#NV"]
+OTHER_ERRORS = ["#NOM?", "#VALEUR!", "#¡REF!", "#¿NOMBRE?", "Err:502"]
+TOO_WIDE = ["####", "##########"]  # for their columns
+NUMBERS = ["1.23E+15", "1,23E+15", "1E+20", "-1.5E-07", "2,5E10"]
+TRUTHS = ["TRUE", "FALSE", "WAHR", "FALSCH"]
+DAMAGED = ENGLISH_ERRORS + GERMAN_ERRORS + OTHER_ERRORS + TOO_WIDE + NUMBERS + TRUTHS
 SOUND = ["#name", "#1 fan!", "true", "wahr", "TRUELOVE", "1.23E+15x", "E+15", "123456", "##", "#A!"]
 
 
 def table_of(password: str) -> bytes:
+    """Returns a table in which Eve, in line 3, has this password."""
     return f'name,password\nann,pw1\neve,"{password}"\nbob,pw2\n'.encode()
 
 

@@ -1,41 +1,66 @@
 """Doubtful lines: fields that a spreadsheet damaged or quoted, headings, and rows of tables."""
 from __future__ import annotations
 
-
 import pytest
 from support.pwhash_runs import MD5CRYPT, hashed, lines_named_in, pwhash, read, save
 
 BOB = b"bob:" + hashed(b"pw2") + b"\n"
 
 
-def hash_first_of_two(line: str, *options: str) -> None:
-    """Fails the test unless this line is doubtful, and the next one isn't."""
-    lines = line.encode() + (b"\nbob,pw2\n" if options else b"\nbob:pw2\n")
-    words = ("file", *MD5CRYPT, *options, save("list", lines), "-o", "hashes", "--skip-doubtful")
-    done = pwhash(*words)
-    assert (done.status, read("hashes"), {*lines_named_in(done.err)}) == (1, BOB, {1}), done
+def assert_doubtful(line: str, *options: str) -> None:
+    """Fails unless this line is doubtful, and the next one isn't."""
+    is_table = "--csv" in options
+    next_line = b"bob,pw2" if is_table else b"bob:pw2"
+    save("list", line.encode() + b"\n" + next_line + b"\n")
+    done = pwhash("file", *MD5CRYPT, *options, "list", "-o", "hashes", "--skip-doubtful")
+    assert (done.status, read("hashes"), set(lines_named_in(done.err))) == (1, BOB, {1}), done
 
 
 ERRORS = [
-    *("#ERROR!", "#NAAM?", "#WAARDE!", "#NAZWA?", "#ARG!", "#ИМЯ?", "#ЗНАЧ!", "#NAMN?", "#NÚM!"),
-    *("#BLOCKED!", "#DEEL/0!", "#DIV/0!", "#¡REF!", "#DĚLENÍ_NULOU!", "#Н/Д", "#N/A"),
+    "#ERROR!",
+    "#NAAM?",
+    "#WAARDE!",
+    "#NAZWA?",
+    "#ARG!",
+    "#ИМЯ?",
+    "#ЗНАЧ!",
+    "#NAMN?",
+    "#NÚM!",
+    "#BLOCKED!",
+    "#DEEL/0!",
+    "#DIV/0!",
+    "#¡REF!",
+    "#DĚLENÍ_NULOU!",
+    "#Н/Д",
+    "#N/A",
 ]
 
 
 @pytest.mark.parametrize("error", ERRORS)
-def test_a_spreadsheets_error_is_not_a_password_in_any_language(error: str) -> None:
-    hash_first_of_two(f"ann:{error}")
+def test_a_spreadsheets_error_in_any_language_is_not_a_password(error: str) -> None:
+    assert_doubtful(f"ann:{error}")
 
 
 TRUTHS = [
-    *("VRAI", "FAUX", "VERDADERO", "FALSO", "VERO", "WAAR", "ONWAAR", "PRAWDA", "FAŁSZ"),
-    *("ИСТИНА", "ЛОЖЬ", "SANT", "FALSKT"),
+    "VRAI",
+    "FAUX",
+    "VERDADERO",
+    "FALSO",
+    "VERO",
+    "WAAR",
+    "ONWAAR",
+    "PRAWDA",
+    "FAŁSZ",
+    "ИСТИНА",
+    "ЛОЖЬ",
+    "SANT",
+    "FALSKT",
 ]
 
 
 @pytest.mark.parametrize("truth", TRUTHS)
-def test_true_and_false_are_not_passwords_in_a_table_in_any_language(truth: str) -> None:
-    hash_first_of_two(f"ann,{truth}", "--csv", "--columns", "1,2")
+def test_true_and_false_in_any_language_are_not_passwords_in_a_table(truth: str) -> None:
+    assert_doubtful(f"ann,{truth}", "--csv", "--columns", "1,2")
 
 
 @pytest.mark.parametrize("password", ["#Fan!", "#2024!", "#ERROR", "ERROR!", "VRAI", "#NAAM?x"])
@@ -54,7 +79,7 @@ def test_a_password_that_resembles_an_error_is_hashed(password: str) -> None:
     ],
 )
 def test_quotes_in_a_list_are_doubtful(line: str) -> None:
-    hash_first_of_two(line)
+    assert_doubtful(line)
 
 
 @pytest.mark.parametrize("password", ['"', 'a"b"', '"a'])
@@ -72,12 +97,18 @@ def test_quotes_in_a_tables_field_are_part_of_the_password() -> None:
 @pytest.mark.parametrize(
     "heading",
     [
-        *("email:password", "E-Mail:Passwort", "mail:pw", "mitarbeiter:password"),
-        *("Mitarbeiter:password", "staff number: Password", "staff:Password", "who:mot de passe"),
+        "email:password",
+        "E-Mail:Passwort",
+        "mail:pw",
+        "mitarbeiter:password",
+        "Mitarbeiter:password",
+        "staff number: Password",
+        "staff:Password",
+        "who:mot de passe",
     ],
 )
 def test_a_heading_in_a_list_is_not_an_account(heading: str) -> None:
-    hash_first_of_two(heading)
+    assert_doubtful(heading)
 
 
 @pytest.mark.parametrize("name", ["ann", "ann.lee-2", "zoë", "Яна"])
@@ -88,7 +119,7 @@ def test_a_login_name_with_the_password_password_is_hashed(name: str) -> None:
 
 @pytest.mark.parametrize("heading", ["E-Mail,Password", "Mitarbeiter,Kennwort"])
 def test_a_heading_is_not_an_account_if_columns_are_numbers(heading: str) -> None:
-    hash_first_of_two(heading, "--csv", "--columns", "1,2")
+    assert_doubtful(heading, "--csv", "--columns", "1,2")
 
 
 @pytest.mark.parametrize(
@@ -100,15 +131,15 @@ def test_a_heading_is_not_an_account_if_columns_are_numbers(heading: str) -> Non
     ],
 )
 def test_a_tables_row_is_doubtful_in_a_list(row: str) -> None:
-    hash_first_of_two(row)
+    assert_doubtful(row)
     done = pwhash("file", *MD5CRYPT, save("rows", row.encode()))
     assert done.status == 1 and b"--csv" in done.err, done
 
 
 def test_a_name_with_a_blank_may_come_from_another_column() -> None:
     table = save("people", b"person,password\nAnn Lee,secret\nbob,pw2\n")
-    words = ("file", *MD5CRYPT, "--csv", "--columns", "person,password", table, "-o", "hashes")
-    done = pwhash(*words)
+    columns = ("--columns", "person,password")
+    done = pwhash("file", *MD5CRYPT, "--csv", *columns, table, "-o", "hashes")
     assert done.status == 1 and b"people, line 2: a blank in the name" in done.err, done
     assert b"--columns" in done.err and b"Lee" not in done.err, done
 

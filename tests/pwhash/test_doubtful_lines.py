@@ -23,7 +23,7 @@ from support.pwhash_runs import BOB, BOM, MD5, MD5CRYPT, hashed, lines_named_in,
         pytest.param(b"ann:\rhunter2", id="a carriage return that begins a password"),
         pytest.param(b"ann:hun\rter2", id="a carriage return in a password"),
         pytest.param(b"ann:hunter2\r", id="a carriage return that ends a password"),
-        pytest.param(b"ann:hunter2\r" + BOM, id="both at the end"),
+        pytest.param(b"ann:hunter2\r" + BOM, id="a carriage return and a mark at the end"),
     ],
 )
 def test_a_mark_or_carriage_return_makes_a_line_doubtful(line: bytes) -> None:
@@ -50,15 +50,15 @@ def test_a_line_with_an_invisible_character_is_doubtful(character: str) -> None:
     [
         pytest.param(hashed(b"secret"), id="md5crypt"),
         pytest.param(b"$2b$10$abcdefghijklmnopqrstuu", id="bcrypt"),
-        pytest.param(b"$apr1$abcdefgh$abcdefghijklmnopqrstuu", id="of Apache"),
-        pytest.param(b"{SSHA}abcdefghijklmnop", id="of LDAP"),
-        pytest.param(b"pbkdf2_sha256$600000$abcdefgh$MB1BFwTbAyJL2HfLS6GkQ3Qk=", id="of Django"),
-        pytest.param(b"bcrypt_sha256$$2b$12$abcdefghijklmnopqrstuu", id="bcrypt of Django"),
-        pytest.param(b"scrypt:32768:8:1$abcdefgh$5f4dcc3b5aa765d61d83", id="of Werkzeug"),
-        pytest.param(b"pbkdf2:sha256:600000$abcdefgh$5f4dcc3b5aa7", id="PBKDF2 of Werkzeug"),
-        pytest.param(b"SCRAM-SHA-256$4096:W22ZaJ0SNY7soEsUEjb6gQ==$WG5d=:wf=", id="of PostgreSQL"),
-        pytest.param(b"md5" + b"5f4dcc3b5aa765d61d8327deb882cf99", id="PostgreSQL's old md5"),
-        pytest.param(b"*2470C0C06DEE42FD1618BB99005ADCA2EC9D1E19", id="of MySQL"),
+        pytest.param(b"$apr1$abcdefgh$abcdefghijklmnopqrstuu", id="Apache's"),
+        pytest.param(b"{SSHA}abcdefghijklmnop", id="LDAP's"),
+        pytest.param(b"pbkdf2_sha256$600000$abcdefgh$MB1BFwTbAyJL2HfLS6GkQ3Qk=", id="Django's"),
+        pytest.param(b"bcrypt_sha256$$2b$12$abcdefghijklmnopqrstuu", id="Django's bcrypt"),
+        pytest.param(b"scrypt:32768:8:1$abcdefgh$5f4dcc3b5aa765d61d83", id="Werkzeug's scrypt"),
+        pytest.param(b"pbkdf2:sha256:600000$abcdefgh$5f4dcc3b5aa7", id="Werkzeug's PBKDF2"),
+        pytest.param(b"SCRAM-SHA-256$4096:W22ZaJ0SNY7soEsUEjb6gQ==$WG5d=:wf=", id="PostgreSQL's"),
+        pytest.param(b"md55f4dcc3b5aa765d61d8327deb882cf99", id="PostgreSQL's old md5"),
+        pytest.param(b"*2470C0C06DEE42FD1618BB99005ADCA2EC9D1E19", id="MySQL's"),
         pytest.param(b"!", id="locked"),
         pytest.param(b"!:1::", id="fields after a lock"),
         pytest.param(b"*:19000:0:99999:7:::", id="fields of a service's account"),
@@ -85,6 +85,7 @@ def test_a_stored_field_is_not_a_password(field: bytes) -> None:
         b"md5$ecret",
         b"scrypt:secret",
     ],
+    ids=os.fsdecode,
 )
 def test_a_password_that_resembles_a_hash_is_hashed(password: bytes) -> None:
     done = pwhash("file", *MD5CRYPT, stdin=b"ann:%b\n" % password)
@@ -93,47 +94,48 @@ def test_a_password_that_resembles_a_hash_is_hashed(password: bytes) -> None:
 
 # ---- Several at once
 
-DOUBTS = [
-    b"name:x",
+LINES = [
+    b"name:x",  # a heading
     b"ann:password",
-    b"bob:",
+    b"bob:",  # no password
     b"carl:x\r",
     b" dan:x",
     b"eva:x ",
-    b"ann:y",
-    b"fay\xe2\x80\x8b:x",
-    b"gil:x\xc2\xa0",
+    b"ann:y",  # a repeated name
+    b"fay\xe2\x80\x8b:x",  # a zero-width space
+    b"gil:x\xc2\xa0",  # a no-break space
 ]
-DOUBTFUL = [1, 3, 4, 5, 6, 7, 8, 9]
-
-
-def doubts() -> bytes:
-    return b"\n".join(DOUBTS) + b"\n"
+LIST = b"\n".join(LINES) + b"\n"
+DOUBTFUL = [1, 3, 4, 5, 6, 7, 8, 9]  # the numbers of all lines but ann:password
 
 
 def test_a_doubtful_line_from_a_pipe_is_not_hashed() -> None:
-    done = pwhash("file", *MD5CRYPT, stdin=doubts())
+    done = pwhash("file", *MD5CRYPT, stdin=LIST)
     assert (done.status, done.out) == (1, b"ann:" + MD5.encode() + b"\n"), done
 
 
 def test_each_doubtful_line_from_a_pipe_is_named() -> None:
     """Line 7 is named with line 2, which has the same name."""
-    done = pwhash("file", *MD5CRYPT, stdin=doubts())
-    named = [int(number) for number in re.findall(rb"line (\d)", done.err)]
-    assert named == [1, 3, 4, 5, 6, 7, 2, 8, 9], done
+    done = pwhash("file", *MD5CRYPT, stdin=LIST)
+    assert lines_named_in(done.err) == [1, 3, 4, 5, 6, 7, 2, 8, 9], done
 
 
 def test_each_doubtful_line_in_a_file_is_named() -> None:
-    done = pwhash("file", *MD5CRYPT, save("lines", doubts()), "--look")
+    done = pwhash("file", *MD5CRYPT, save("lines", LIST), "--look")
+    # The line of a message, and not an earlier line that it names: a colon or a name follows.
     named = {int(number) for number in re.findall(rb"line (\d)[: ]", done.err)}
     assert done.status == 1 and named == set(DOUBTFUL), done
 
 
 @pytest.mark.parametrize(
-    ("reason", "numbers"), [("blank", [5, 6, 9]), ("invisible", [8, 9])], ids=["blank", "invisible"]
+    ("reason", "numbers"),
+    [
+        pytest.param("blank", [5, 6, 9], id="blank"),
+        pytest.param("invisible", [8, 9], id="invisible"),
+    ],
 )
 def test_the_reason_for_a_doubt_is_named(reason: str, numbers: list[int]) -> None:
-    done = pwhash("file", *MD5CRYPT, save("lines", doubts()), "--look")
+    done = pwhash("file", *MD5CRYPT, save("lines", LIST), "--look")
     named = re.findall(rf"line (\d)[: ].*{reason}".encode(), done.err)
     assert [int(number) for number in named] == numbers, done
 

@@ -1,6 +1,4 @@
-"""A single doubtful password, typed or piped, to be hashed or set in a file.
-
-pwhash refuses it unless --accept-doubtful is given.
+"""A single doubtful password, typed or piped: pwhash refuses it unless it gets --accept-doubtful.
 
 test_terminals.py has more about typed passwords, and test_one_password_of_a_pipe.py about piped
 ones.
@@ -26,6 +24,8 @@ SET = ("set", *MD5CRYPT, "passwords", "ann")
 BEFORE = b"ann:x\n"
 LONGEST_OF_CRYPT = 511  # bytes: libxcrypt's CRYPT_MAX_PASSPHRASE_SIZE without the zero byte
 YESCRYPT = b"$y$j9T$abcdefghijklmnopqrstu.$abc"
+SHOWN = 20  # how many lines of each kind a run that stops shows
+MANY = 30  # more lines than SHOWN
 # Each contains "secret", which no message may show.
 TYPED = [
     pytest.param(b"secret ", b"blank", id="a trailing blank"),
@@ -36,7 +36,9 @@ TYPED = [
     pytest.param(YESCRYPT + b"secret", b"stored hash", id="yescrypt"),
     pytest.param(b"{SSHA}secretsecretsecret", b"stored hash", id="an LDAP scheme"),
     pytest.param(b"secret:$1$x$y:19000:0:9:7:::", b"stored hash", id="a line from shadow"),
-    pytest.param(b"secret" + b"x" * (LONGEST_OF_CRYPT - 5), b"511 bytes", id="too long for crypt"),
+    pytest.param(
+        b"secret".ljust(LONGEST_OF_CRYPT + 1, b"x"), b"511 bytes", id="one byte too long for crypt"
+    ),
 ]
 PIPED = [
     *TYPED,
@@ -62,9 +64,9 @@ def test_a_doubtful_password_from_a_pipe_is_refused_or_accepted(
     assert done.status == 0 and done.out.startswith(b"$1$xxxxxxxx$"), done
     if len(password) <= LONGEST_OF_CRYPT:
         assert done.out == hashed(password) + b"\n", done
-    made = done.out
+    new_line = b"ann:" + done.out
     done = pwhash(*SET, "--accept-doubtful", stdin=password + b"\n")
-    assert (done.status, read("passwords")) == (0, b"ann:" + made), done
+    assert (done.status, read("passwords")) == (0, new_line), done
 
 
 @pytest.mark.parametrize(("password", "reason"), TYPED)
@@ -103,7 +105,7 @@ def test_an_empty_password_is_never_accepted(data: bytes) -> None:
         pytest.param(b"NULL", id="what databases export"),
     ],
 )
-def test_other_passwords_are_hashed_without_a_message(password: bytes) -> None:
+def test_a_password_that_only_looks_doubtful_is_hashed_without_a_message(password: bytes) -> None:
     done = pwhash(*MD5CRYPT, stdin=password + b"\n")
     assert (done.status, done.out, done.err) == (0, hashed(password) + b"\n", b""), done
 
@@ -129,24 +131,22 @@ def test_a_password_too_long_for_crypt_is_doubtful_in_a_file() -> None:
 
 
 def test_the_advice_for_many_doubtful_lines_is_printed_once() -> None:
-    save("list", b"".join(b"user%d:p\xe4ss\n" % number for number in range(30)))
+    save("list", b"".join(b"user%d:p\xe4ss\n" % number for number in range(MANY)))
     done = pwhash("file", *MD5CRYPT, "list", "-o", "hashes")
-    assert done.status == 1 and done.err.count(b"not UTF-8") == 20, done
+    assert done.status == 1 and done.err.count(b"not UTF-8") == SHOWN, done
     assert done.err.count(b"iconv") == 1, done
 
 
-# More lines of each kind than a run shows that stops.
-MANY = 30
-REFUSED_ONES = b"".join(b":pw%d\n" % number for number in range(MANY))
-DOUBTFUL_ONES = b"".join(b"user%d:\n" % number for number in range(MANY))
+REFUSED_LINES = b"".join(b":pw%d\n" % number for number in range(MANY))
+DOUBTFUL_LINES = b"".join(b"user%d:\n" % number for number in range(MANY))
 SKIPS = ("--skip-refused", "--skip-doubtful")
 
 
 def test_a_run_that_stops_says_how_many_lines_it_does_not_show() -> None:
-    save("list", REFUSED_ONES + DOUBTFUL_ONES + b"ann:pw1\n")
+    save("list", REFUSED_LINES + DOUBTFUL_LINES + b"ann:pw1\n")
     done = pwhash("file", *MD5CRYPT, "list", "-o", "hashes")
-    assert (done.status, len(lines_named_in(done.err))) == (1, 40), done
-    assert b"20 more like these aren't shown" in done.err, done
+    assert (done.status, len(lines_named_in(done.err))) == (1, 2 * SHOWN), done
+    assert b"%d more like these aren't shown" % (2 * (MANY - SHOWN)) in done.err, done
     assert b"--look --skip-refused --skip-doubtful" in done.err, done
     assert not os.path.exists("hashes"), done
 
@@ -160,7 +160,9 @@ def test_a_run_that_stops_says_how_many_lines_it_does_not_show() -> None:
     ],
 )
 def test_every_line_that_is_left_out_is_shown(words: tuple[str, ...]) -> None:
-    save("list", REFUSED_ONES + DOUBTFUL_ONES + b"ann:pw1\n")
+    save("list", REFUSED_LINES + DOUBTFUL_LINES + b"ann:pw1\n")
     done = pwhash("file", *MD5CRYPT, "list", *words)
     assert (done.status, lines_named_in(done.err)) == (1, [*range(1, 2 * MANY + 1)]), done
-    assert b"lines left out: 60" in done.err and b"more like these" not in done.err, done
+    assert (
+        b"lines left out: %d" % (2 * MANY) in done.err and b"more like these" not in done.err
+    ), done

@@ -7,8 +7,10 @@ import unicodedata
 
 import pytest
 from support.pwhash_runs import (
-    Ended,
+    ANN,
+    BOB,
     MD5CRYPT,
+    Ended,
     at_terminal,
     hashed,
     lines_named_in,
@@ -16,8 +18,6 @@ from support.pwhash_runs import (
     read,
     save,
 )
-
-BOB = b"bob:" + hashed(b"pw2") + b"\n"
 
 
 def test_a_lost_character_is_doubtful_and_no_other_encoding_is_guessed() -> None:
@@ -27,7 +27,7 @@ def test_a_lost_character_is_doubtful_and_no_other_encoding_is_guessed() -> None
     assert b"FFFD" in done.err and b"iconv" not in done.err, done
 
 
-# Decomposed accents: the letter and its accent are two characters.
+# ---- Decomposed accents: the letter and its accent are two characters
 
 DECOMPOSED = unicodedata.normalize("NFD", "Grüße").encode()
 
@@ -74,16 +74,17 @@ def test_a_typed_password_with_decomposed_accents_is_reported_and_hashed() -> No
     assert b"Gru" not in terminal.screen, terminal
 
 
-# Repeated names.
+# ---- Repeated names
 
 
 def skipped(lines: bytes) -> Ended:
+    """Hashes a list, without the doubtful lines."""
     return pwhash("file", *MD5CRYPT, save("list", lines), "-o", "hashes", "--skip-doubtful")
 
 
 def test_the_first_line_of_a_repeated_name_stays() -> None:
     done = skipped(b"ann:pw1\nbob:pw2\nann:other\n")
-    assert done.status == 1 and read("hashes") == b"ann:" + hashed(b"pw1") + b"\n" + BOB, done
+    assert done.status == 1 and read("hashes") == ANN + BOB, done
     assert re.findall(rb"line (\d+) .*after line (\d+)", done.err) == [(b"3", b"1")], done
 
 

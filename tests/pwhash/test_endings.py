@@ -50,12 +50,18 @@ EACH_SIGNAL = pytest.mark.parametrize(
 
 
 def is_asleep(process: int) -> bool:
-    """Returns whether a process sleeps for 0.1 s, as it does while it waits for a reader."""
+    """Returns whether a process is asleep each time in 0.1 s, as one that waits for a reader."""
     for _ in range(5):
         if state_of(process) != "S":
             return False
         time.sleep(0.02)
     return True
+
+
+def pwhash_below(strace: subprocess.Popen[bytes]) -> int:
+    """Returns the id of the pwhash that strace runs."""
+    _, pwhash, *_ = tree(strace.pid)
+    return pwhash
 
 
 def waits_for_reader(process: subprocess.Popen[bytes]) -> bool:
@@ -87,25 +93,25 @@ def test_a_signal_ends_a_run_whose_messages_nobody_reads(number: signal.Signals)
 @pytest.mark.needs("strace")
 @EACH_SIGNAL
 def test_a_signal_after_out_has_its_name_does_not_change_the_status(number: signal.Signals) -> None:
-    """strace stops pwhash before it removes the file's other names."""
+    """strace stops pwhash after it has linked OUT, and before it removes the file's other names."""
     save("list", users(3) + b"no colon\n")
     words = ("file", *MD5CRYPT, "list", "-o", "hashes", "--skip-refused")
     with stopped_by_strace(STOPPED_AFTER_LINK, *words) as process:
         assert os.path.exists("hashes")
-        os.kill(tree(process.pid)[1], number)
+        os.kill(pwhash_below(process), number)
         done = continued(process)
     assert done.status == 1 and sorted(os.listdir()) == ["hashes", "list", "log"], done
     assert read("hashes").count(b"\n") == 3 and b"hashes" in done.err, done
 
 
 @pytest.mark.needs("strace")
-def test_a_full_standard_error_does_not_change_the_status_either() -> None:
+def test_a_signal_does_not_change_the_status_if_standard_error_is_full() -> None:
     save("list", users(3))
     words = ("file", *MD5CRYPT, "list", "-o", "hashes")
     with open("/dev/full", "wb") as full:
         with stopped_by_strace(STOPPED_AFTER_LINK, *words, stderr=full) as process:
             assert os.path.exists("hashes")
-            os.kill(tree(process.pid)[1], signal.SIGTERM)
+            os.kill(pwhash_below(process), signal.SIGTERM)
             done = continued(process)
     assert done.status == 0 and sorted(os.listdir()) == ["hashes", "list", "log"], done
 
@@ -183,8 +189,8 @@ def test_a_library_of_another_version_is_named(copy: Copy, folder: Path) -> None
     save("other.c", b"int other;\n")
     library = folder / copy.library.name
     soname = f"-Wl,-soname,{copy.library.name}"
-    made = ended(started_program("gcc", "-shared", soname, "-o", str(library), "other.c"))
-    assert made.status == 0, made
+    build = ended(started_program("gcc", "-shared", soname, "-o", str(library), "other.c"))
+    assert build.status == 0, build
     copy.library.unlink()
     library.rename(copy.library)
     done = copy.run(*MD5CRYPT, stdin=b"x")

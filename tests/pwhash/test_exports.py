@@ -6,7 +6,7 @@ import os
 import pytest
 from support.pwhash_runs import MD5CRYPT, lines_named_in, pwhash, read, save
 
-REFUSED = 1
+REFUSED = 1  # the status if lines are refused or doubtful
 
 
 def assert_doubtful(lines: bytes, line: int, *words: str) -> None:
@@ -33,9 +33,9 @@ def test_a_row_of_a_table_in_a_list_shows_no_password(line: bytes) -> None:
 @pytest.mark.parametrize(
     "field",
     [
-        pytest.param(b"secret:1001:1001:Bob:/home/bob:/bin/sh", id="numbered"),
+        pytest.param(b"secret:1001:1001:Bob:/home/bob:/bin/sh", id="with numbers"),
         pytest.param(b"secret:::Bob Smith:/home/bob:/bin/sh", id="without numbers"),
-        pytest.param(b"secret::users:Bob:/home/bob:/bin/sh", id="by the group's name"),
+        pytest.param(b"secret::users:Bob:/home/bob:/bin/sh", id="with the group's name"),
         pytest.param(b"secret:::::", id="empty"),
     ],
 )
@@ -92,10 +92,11 @@ def test_rows_joined_by_two_stray_quotes_are_named_by_both_lines() -> None:
     "tables",
     [
         pytest.param(
-            b"name,password,mail\nann,a,m\nuid,name,password\n7,bob,b\n", id="to the right"
+            b"name,password,mail\nann,a,m\nuid,name,password\n7,bob,b\n",
+            id="each one further right",
         ),
         pytest.param(
-            b"uid,name,password\n7,bob,b\nname,password,mail\nann,a,m\n", id="to the left"
+            b"uid,name,password\n7,bob,b\nname,password,mail\nann,a,m\n", id="each one further left"
         ),
     ],
 )

@@ -1,7 +1,7 @@
 """The folders of what pwhash writes: OUT, lists and password files get into no other folder.
 
-Somebody who could exchange a folder, or a link in its path, could have files made and removed
-elsewhere, as root.
+Otherwise somebody who exchanges a folder, or a link in its path, could make root's pwhash create
+and remove files elsewhere.
 """
 from __future__ import annotations
 
@@ -30,10 +30,11 @@ from support.pwhash_runs import (
     users,
 )
 
-# The user daemon has a group of its own, of the same name.
+# Debian's numbers. The user daemon has a group of its own, with the same number.
 DAEMON = 1
 NOBODY, GAMES = 65534, 60
-STARTED = ("/usr/bin/python3", "-I", "-S", str(PACKAGE / "pwhash/start.py"), str(LIBRARY), "pwhash")
+# The command that bin/pwhash runs. A shell in between would drop the rights of another user.
+START = ("/usr/bin/python3", "-I", "-S", str(PACKAGE / "pwhash/start.py"), str(LIBRARY), "pwhash")
 HASHES = ANN + BOB
 GENERATE = ("file", "--generate", "-R", "1000", "names", "-o", "own/hashes")
 
@@ -44,7 +45,7 @@ def fixture_files(folder: Path, monkeypatch: pytest.MonkeyPatch) -> None:
     monkeypatch.delenv("SUDO_UID", raising=False)
     save("passwords", b"ann:pw1\nbob:pw2\n")
     save("names", b"ann\nbob\n")
-    save("made", HASHES)
+    save("new", HASHES)
     (folder / "own").mkdir()
 
 
@@ -57,7 +58,7 @@ def list_into(path: str) -> Ended:
 
 
 def install_as(target: str) -> Ended:
-    return pwhash("install", "made", target)
+    return pwhash("install", "new", target)
 
 
 WRITERS = [
@@ -71,7 +72,8 @@ Writer = Callable[[str], Ended]
 def assert_refused(done: Ended, reason: bytes, *folders: str) -> None:
     """Fails unless the run was refused for this reason, and made nothing in these folders."""
     assert done.status == 2 and reason in done.err, done
-    assert not any(os.listdir(each) for each in ("own", *folders)), done
+    for folder in ("own", *folders):
+        assert os.listdir(folder) == [], done
 
 
 def make_folder(path: str, mode: int, user: int = 0, group: int = 0) -> None:
@@ -135,7 +137,8 @@ def test_only_the_group_of_one_user_may_write_the_folder(
 
 
 @pytest.mark.needs("root")
-def test_a_group_that_is_another_users_first_one_isnt_of_one_user() -> None:
+def test_a_group_that_is_also_another_users_is_not_the_group_of_one_user() -> None:
+    """In the namespace, carl has daemon's group, too."""
     make_folder("shared", 0o775, DAEMON, DAEMON)
     script = """
         cp /etc/passwd users
@@ -159,7 +162,7 @@ def test_an_acl_that_lets_another_user_write_the_folder_is_noticed() -> None:
 
 @pytest.mark.needs("root")
 @pytest.mark.parametrize("write", [hash_into, list_into], ids=["OUT", "a list"])
-def test_with_sudo_the_folder_of_who_runs_it_is_accepted(
+def test_with_sudo_the_folder_of_the_user_who_runs_it_is_accepted(
     write: Writer, monkeypatch: pytest.MonkeyPatch
 ) -> None:
     make_folder("theirs", 0o755, NOBODY)
@@ -183,7 +186,7 @@ def test_another_value_of_sudos_variable_lets_nobody_in(
 @pytest.mark.needs("root")
 def test_a_set_user_id_program_believes_nobody_about_sudo() -> None:
     make_folder("theirs", 0o755, NOBODY)
-    command = ("setpriv", "--ruid=65534", "--keep-groups", "env", "SUDO_UID=65534", *STARTED)
+    command = ("setpriv", "--ruid=65534", "--keep-groups", "env", "SUDO_UID=65534", *START)
     done = ended(started_program(*command, "file", *MD5CRYPT, "passwords", "-o", "theirs/hashes"))
     assert_refused(done, b"belongs to another user", "theirs")
 

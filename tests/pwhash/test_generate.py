@@ -16,9 +16,9 @@ from support.pwhash_runs import BOM, Ended, hashed, lines_named_in, pwhash, read
 FAST = ("-R", "1000")
 WORDS = ("file", "--generate", *FAST, "-o", "hashes")
 BY_CLASS = (*WORDS, "--csv", "--passwords", "lists", "--by", "class")
-LETTERS = re.compile(
-    rb"[A-HJ-NP-Za-km-z][A-HJ-NP-Za-km-z2-9]*[A-HJ-NP-Za-km-z]"
-)  # no 0, O, 1, l or I
+# Matches a password: letters and digits other than 0, O, 1, l and I, with a letter at both ends.
+LETTERS = re.compile(rb"[A-HJ-NP-Za-km-z][A-HJ-NP-Za-km-z2-9]*[A-HJ-NP-Za-km-z]")
+CHARACTERS = 57  # different letters and digits that a password may have
 
 
 def rows_of(path: str, separator: str = ",") -> dict[bytes, bytes]:
@@ -56,7 +56,8 @@ def test_each_name_gets_a_password_of_its_own() -> None:
     assert (done.status, done.out, done.err) == (0, b"", b""), done
     passwords = rows_of("list")
     assert list(passwords) == [b"ann", b"bob", b"cyd"] and len(set(passwords.values())) == 3
-    assert all(len(each) == 20 and LETTERS.fullmatch(each) for each in passwords.values())
+    for password in passwords.values():
+        assert len(password) == 20 and LETTERS.fullmatch(password), password
     assert_hashes_of(passwords)
     assert sorted(os.listdir()) == ["hashes", "list", "names"]
 
@@ -80,7 +81,8 @@ def test_a_length_can_be_chosen(length: int) -> None:
     passwords = rows_of("list")
     assert done.status == 0 and {len(each) for each in passwords.values()} == {length}, done
     assert all(LETTERS.fullmatch(each) for each in passwords.values()), passwords
-    assert len(set(b"".join(passwords.values()))) > 55, "few letters and digits"
+    used = set(b"".join(passwords.values()))
+    assert len(used) >= CHARACTERS - 1, "few letters and digits"
     assert_hashes_of(passwords)
 
 
@@ -200,6 +202,7 @@ CLASSES = [
     pytest.param(b"5\x00a", b"invisible", id="a zero byte"),
     pytest.param("5\u200ba".encode(), b"invisible", id="a zero-width space"),
     pytest.param(b"K\xe4fer", b"WINDOWS-1252", id="Windows-1252"),
+    # A file's name has at most 255 bytes, with ".csv".
     pytest.param(b"x" * 252, b"too long", id="too long"),
     pytest.param(b"#NAME?", b"an error of a spreadsheet", id="an error of a spreadsheet"),
 ]
@@ -276,12 +279,18 @@ def test_the_option_look_makes_no_list() -> None:
         pytest.param("names --length 9", b"needs --generate", id="a length alone"),
         pytest.param("table --csv --by class", b"needs --generate", id="a column alone"),
         pytest.param("--generate -o h --passwords h names", b"different", id="one file for both"),
-        pytest.param("--generate -o h --passwords h.part names", b"different", id="the part"),
+        pytest.param("--generate -o h --passwords h.part names", b"different", id="OUT's part"),
         pytest.param("--generate -o h --passwords - names", b"would write a file", id="a dash"),
-        pytest.param("--generate -o h --passwords ./h.part.options names", b"diff", id="options"),
+        pytest.param(
+            "--generate -o h --passwords ./h.part.options names", b"diff", id="OUT's options"
+        ),
         pytest.param("--generate -o h --passwords names names", b"already exists", id="FILE"),
-        pytest.param("--generate -o h --passwords l --length 7 names", b"8 to 64", id="short"),
-        pytest.param("--generate -o h --passwords l --length 65 names", b"8 to 64", id="long"),
+        pytest.param(
+            "--generate -o h --passwords l --length 7 names", b"8 to 64", id="a short length"
+        ),
+        pytest.param(
+            "--generate -o h --passwords l --length 65 names", b"8 to 64", id="a long length"
+        ),
         pytest.param("--generate -o h --passwords l --budget 1 names", b"over budget", id="costly"),
         pytest.param("--generate -o h --passwords l --by class names", b"--csv", id="no table"),
         pytest.param("--generate -o h --passwords= names", b"empty", id="an empty list"),
@@ -312,8 +321,8 @@ def test_invalid_arguments_are_refused(words: str, reason: bytes) -> None:
 
 
 @pytest.mark.parametrize("kind", ["file", "folder", "link", "pipe"])
-@pytest.mark.parametrize("by_class", [False, True], ids=["one list", "a list for each class"])
-def test_a_list_overwrites_nothing(kind: str, by_class: bool) -> None:
+@pytest.mark.parametrize("is_by_class", [False, True], ids=["one list", "a list for each class"])
+def test_a_list_overwrites_nothing(kind: str, is_by_class: bool) -> None:
     save("names", b"name,class\nann,5a\n")
     if kind == "file":
         save("lists", b"old")
@@ -323,7 +332,7 @@ def test_a_list_overwrites_nothing(kind: str, by_class: bool) -> None:
         os.mkfifo("lists")
     else:
         os.symlink("elsewhere", "lists")
-    words = BY_CLASS if by_class else (*WORDS, "--csv", "--passwords", "lists")
+    words = BY_CLASS if is_by_class else (*WORDS, "--csv", "--passwords", "lists")
     done = pwhash(*words, "names")
     assert_refused(done, b"lists already exists", "names", "lists")
     done = pwhash(*words, "--resume", "names")

@@ -33,13 +33,27 @@ from support.pwhash_runs import (
 COUNT = SLOW_COUNT
 CLASSES = 4
 ROUNDS = ("-R", "20000")
-ONE = ("file", "--generate", *ROUNDS, "--csv", "table", "-o", "hashes", "--passwords", "lists")
-WORDS = (*ONE, "--by", "class")
-# For tests that disturb no run at a certain moment.
+WITH_ONE_LIST = (
+    "file",
+    "--generate",
+    *ROUNDS,
+    "--csv",
+    "table",
+    "-o",
+    "hashes",
+    "--passwords",
+    "lists",
+)
+WORDS = (*WITH_ONE_LIST, "--by", "class")
+# With cheaper hashes, for tests that disturb no run at a certain moment.
 QUICK = tuple("1000" if word == "20000" else word for word in WORDS)
-TABLE = b"name;class\n" + b"".join(b"user%d;c%d\n" % (n, n % CLASSES) for n in range(COUNT))
+ROWS = [b"user%d;c%d\n" % (number, number % CLASSES) for number in range(COUNT)]
+TABLE = b"name;class\n" + b"".join(ROWS)
+ROWS_OF_A_LIST = COUNT // CLASSES
+OTHER_PASSWORD = b"A" * 20
 PART = "hashes.part"
-STARTED = ("/usr/bin/python3", "-I", "-S", str(PACKAGE / "pwhash/start.py"), str(LIBRARY), "pwhash")
+# The command that bin/pwhash runs, so that strace counts only the calls from here on.
+START = ("/usr/bin/python3", "-I", "-S", str(PACKAGE / "pwhash/start.py"), str(LIBRARY), "pwhash")
 
 
 @pytest.fixture(autouse=True, name="table")
@@ -47,7 +61,7 @@ def fixture_table(folder: pathlib.Path) -> None:
     """A table in the scratch folder."""
     del folder  # it is the current folder
     save("table", TABLE)
-    os.utime("table", (1e9, 1e9))
+    os.utime("table", (1e9, 1e9))  # the table must be older than the part
 
 
 def passwords_in(lists: str = "lists") -> dict[bytes, bytes]:
@@ -61,12 +75,13 @@ def passwords_in(lists: str = "lists") -> dict[bytes, bytes]:
     return {name: password for name, _, password in rows if name != b"name"}
 
 
-def hashes_in(name: str) -> dict[bytes, bytes]:
+def hashes_in(path: str) -> dict[bytes, bytes]:
     """Returns the hashes in the complete lines of a file, or none if the file doesn't exist."""
-    if not os.path.exists(name):
+    if not os.path.exists(path):
         return {}
-    lines = [line.partition(b":") for line in read(name).split(b"\n")[:-1]]
-    return {name_of_line: stored for name_of_line, _, stored in lines}
+    *complete, _ = read(path).split(b"\n")
+    lines = [line.partition(b":") for line in complete]
+    return {name: stored for name, _, stored in lines}
 
 
 def assert_passwords_of(hashes: dict[bytes, bytes], most: int) -> None:
@@ -114,16 +129,15 @@ def test_a_kill_at_any_moment_leaves_no_hash_without_its_password(number: signal
     whole = seconds_of_run()
     for _ in range(8):
         done = stopped(number, random.uniform(0, whole))
-        made = {**hashes_in(PART), **hashes_in("hashes")}
-        assert_passwords_of(made, 3)
+        before = {**hashes_in(PART), **hashes_in("hashes")}
+        assert_passwords_of(before, 3)
         if not os.path.exists("hashes"):
             done = pwhash(*QUICK, "--resume")
         if done.status == 2 and number is signal.SIGKILL:  # the run was writing the lists
-            assert b"lists already exists" in done.err and not made, done
+            assert b"lists already exists" in done.err and not before, done
         elif done.status != -number:  # the run may have ended before the signal
             assert_whole(done)
-            later = hashes_in("hashes")
-            assert all(later[name] == stored for name, stored in made.items()), done
+            assert before.items() <= hashes_in("hashes").items(), done
         remove_all()
 
 
@@ -148,10 +162,10 @@ class TestResuming:
     """A killed run, which --resume continues unless something has changed."""
 
     def test_a_run_goes_on_with_the_same_passwords(self) -> None:
-        before, made = passwords_in(), hashes_in(PART)
+        passwords, hashes = passwords_in(), hashes_in(PART)
         assert_whole(pwhash(*WORDS, "--resume"))
-        assert passwords_in() == before
-        assert all(hashes_in("hashes")[name] == stored for name, stored in made.items())
+        assert passwords_in() == passwords
+        assert hashes.items() <= hashes_in("hashes").items()
 
     def test_a_run_does_not_go_on_without_resume(self) -> None:
         done = pwhash(*WORDS)
@@ -184,20 +198,28 @@ class TestResuming:
         os.truncate("lists/c0.csv", size)
         assert_does_not_resume(*WORDS, reason=b"lists/c0.csv isn't as the earlier run left it")
 
-    @pytest.mark.parametrize("place", [1, COUNT // CLASSES // 2, COUNT // CLASSES])
-    def test_another_password_is_noticed(self, place: int) -> None:
+    @pytest.mark.parametrize(
+        "row",
+        [
+            pytest.param(1, id="in the first row"),
+            pytest.param(ROWS_OF_A_LIST // 2, id="in the middle"),
+            pytest.param(ROWS_OF_A_LIST, id="in the last row"),
+        ],
+    )
+    def test_a_shorter_password_is_noticed(self, row: int) -> None:
         lines = read("lists/c0.csv").splitlines(keepends=True)
-        name = lines[place].partition(b";")[0]
-        save("lists/c0.csv", read("lists/c0.csv").replace(lines[place], name + b";AAAAAAAAAAAAA\n"))
+        name = lines[row].partition(b";")[0]
+        lines[row] = name + b";" + OTHER_PASSWORD[:13] + b"\n"
+        save("lists/c0.csv", b"".join(lines))
         assert_does_not_resume(*WORDS, reason=b"c0.csv isn't as the earlier run left it")
 
-    @pytest.mark.parametrize("time", [0, 2**32], ids=["older", "newer"])
-    def test_another_password_is_noticed_whatever_the_time_of_the_list(self, time: int) -> None:
+    @pytest.mark.parametrize("changed", [0, 2**32], ids=["an older list", "a newer list"])
+    def test_another_password_is_noticed_whatever_the_time_of_the_list(self, changed: int) -> None:
         lines = read("lists/c0.csv").splitlines(keepends=True)
         name = lines[2].partition(b";")[0]
-        lines[2] = name + b";AAAAAAAAAAAAAAAAAAAA\n"
+        lines[2] = name + b";" + OTHER_PASSWORD + b"\n"
         save("lists/c0.csv", b"".join(lines))
-        os.utime("lists/c0.csv", (time, time))
+        os.utime("lists/c0.csv", (changed, changed))
         assert_does_not_resume(*WORDS, reason=b"c0.csv isn't as the earlier run left it")
 
     def test_a_list_of_another_run_in_its_place_is_noticed(self) -> None:
@@ -205,7 +227,7 @@ class TestResuming:
         status = os.stat("lists/c0.csv")
         lines = read("lists/c0.csv").splitlines(keepends=True)
         name = lines[2].partition(b";")[0]
-        lines[2] = name + b";AAAAAAAAAAAAAAAAAAAA\n"
+        lines[2] = name + b";" + OTHER_PASSWORD + b"\n"
         save_part("backup", b"".join(lines))
         os.utime("backup", ns=(status.st_atime_ns, status.st_mtime_ns))
         os.rename("backup", "lists/c0.csv")
@@ -213,7 +235,7 @@ class TestResuming:
 
     def test_a_list_of_another_run_beside_them_is_noticed(self) -> None:
         last = read("lists/c0.csv").splitlines()[-1].partition(b";")[0]
-        save_part("lists/old.csv", b"name;password\n" + last + b";AAAAAAAAAAAAAAAAAAAA\n")
+        save_part("lists/old.csv", b"name;password\n" + last + b";" + OTHER_PASSWORD + b"\n")
         os.utime("lists/old.csv", (0, 0))
         assert_does_not_resume(*WORDS, reason=b"a name has two passwords")
 
@@ -236,9 +258,8 @@ class TestResuming:
         assert_does_not_resume(*WORDS, reason=b"isn't a folder that a run of yours has made")
 
     def test_a_run_does_not_go_on_with_other_options(self) -> None:
-        assert_does_not_resume(*ONE, reason=b"--by")
-        words = [word for word in WORDS if word not in ("--generate", "--passwords", "lists")]
-        assert_does_not_resume(*words[: words.index("--by")], reason=b"")
+        assert_does_not_resume(*WITH_ONE_LIST, reason=b"--by")
+        assert_does_not_resume("file", *ROUNDS, "--csv", "table", "-o", "hashes", reason=b"")
 
     def test_a_run_does_not_go_on_with_a_changed_table(self) -> None:
         save("table", TABLE + b"eve;c0\n")
@@ -256,7 +277,7 @@ class TestResuming:
 )
 def test_the_run_after_one_killed_while_writing_lists_says_what_to_do(file: str) -> None:
     command = ["strace", "-qq", "-o", "/dev/null", "-P", file, "-e", "inject=openat:signal=KILL"]
-    ended(started_program(*command, *STARTED, *WORDS))
+    ended(started_program(*command, *START, *WORDS))
     assert set(os.listdir()) == {"table", "lists", PART} and not hashes_in(PART)
     before = {path.name: path.read_bytes() for path in pathlib.Path("lists").iterdir()}
     done = pwhash(*WORDS)
@@ -275,7 +296,7 @@ def test_without_resume_nobody_is_advised_to_remove_only_the_passwords() -> None
     assert done.status == 2 and b"add --resume, or remove both" in done.err, done
 
 
-def test_a_run_whose_lists_are_in_a_folder_of_a_group_goes_on_too() -> None:
+def test_a_run_whose_lists_are_in_a_folder_of_a_group_goes_on() -> None:
     """In such a folder, new folders get the set-group-ID bit."""
     os.chmod(".", 0o2755)
     with halted(PWHASH, *WORDS) as process:
@@ -285,25 +306,30 @@ def test_a_run_whose_lists_are_in_a_folder_of_a_group_goes_on_too() -> None:
     assert passwords_in() == before
 
 
-def test_a_run_with_one_list_goes_on_too() -> None:
-    with halted(PWHASH, *ONE) as process:
+def test_a_run_with_one_list_goes_on() -> None:
+    with halted(PWHASH, *WITH_ONE_LIST) as process:
         process.kill()
     before = read("lists")
-    done = pwhash(*ONE, "--resume")
+    done = pwhash(*WITH_ONE_LIST, "--resume")
     assert_whole(done)
     assert read("lists") == before, done
 
 
+def save_shadow(fields: dict[bytes, bytes]) -> None:
+    """Saves a shadow file that has these fields by name."""
+    save("shadow", b"".join(b"%s:%s:::::::\n" % (name, field) for name, field in fields.items()))
+
+
 def test_a_name_locked_between_the_runs_is_reported_and_gets_no_hash() -> None:
     last = b"user%d" % (COUNT - 1)
-    fields = {b"user%d" % n: b"$1$ab$x" for n in range(COUNT)}
-    save("shadow", b"".join(b"%s:%s:::::::\n" % line for line in fields.items()))
+    fields = {b"user%d" % number: b"$1$ab$x" for number in range(COUNT)}
+    save_shadow(fields)
     words = (*WORDS, "--skip-locked", "shadow")
     with halted(PWHASH, *words) as process:
         process.kill()
     assert last not in hashes_in(PART)
     fields[last] = b"!" + fields[last]
-    save("shadow", b"".join(b"%s:%s:::::::\n" % line for line in fields.items()))
+    save_shadow(fields)
     done = pwhash(*words, "--resume")
     named = b"lists has passwords that get no hash, since their lines are left out now: " + last
     assert done.status == 0 and named + b".\n" in done.err, done
@@ -324,20 +350,23 @@ def test_of_two_simultaneous_runs_with_the_same_lists_one_makes_everything() -> 
     processes = [started(*words) for words in (WORDS, others)]
     results = [ended(process) for process in processes]
     assert sorted(done.status for done in results) == [0, 2], results
-    assert set(os.listdir()) & {"hashes", "others"} == {
-        "hashes" if results[0].status == 0 else "others"
-    }
+    first = results[0]
+    assert os.path.exists("hashes") == (first.status == 0), results
+    assert os.path.exists("others") == (first.status != 0), results
     assert not os.path.exists(PART) and not os.path.exists("others.part"), results
 
 
-# The first run may fail on the small disk; its files are copied. The next one has enough space.
+# The run may fail on the small disk, whose files are copied. A second run then has enough space.
 SMALL_THEN_LARGE = """
-mkdir full left && mount -t tmpfs -o size=PAGESk,mode=700 none full && cd full
-status=0; "$@" || status=$?
+mkdir full left
+mount -t tmpfs -o size=KIBIBYTESk,mode=700 none full
+cd full
+status=0
+"$@" || status=$?
 echo "first $status" >&2
 cp -r . ../left
 mount -o remount,size=9m ../full
-[ $status = 0 ] || "$@" --resume
+if [ $status != 0 ]; then "$@" --resume; fi
 cp -r . ../end
 """
 
@@ -346,10 +375,10 @@ cp -r . ../end
 @pytest.mark.parametrize("pages", [1, 3, 6, 8, 10, 12])
 def test_a_full_disk_leaves_no_hash_without_its_password(pages: int) -> None:
     words = ["../table" if word == "table" else word for word in QUICK]
-    done = in_namespace(SMALL_THEN_LARGE.replace("PAGES", str(4 * pages)), *words)
+    script = SMALL_THEN_LARGE.replace("KIBIBYTES", str(4 * pages))  # a page has 4 KiB
+    done = in_namespace(script, *words)
     os.chdir("left")
-    made = {**hashes_in(PART), **hashes_in("hashes")}
-    assert_passwords_of(made, 5)
+    assert_passwords_of({**hashes_in(PART), **hashes_in("hashes")}, 5)
     os.chdir("../end")
     os.link("../table", "table")
     is_whole = b"first 0" in done.err

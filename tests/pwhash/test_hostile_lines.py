@@ -22,34 +22,45 @@ LIKE_ANSWERS = [
     b"a:ok",
     b"a:$1$x$y",
 ]
-ODD_LINES = [b"", b":", b":x", b"no colon", b" "]
-ODD_LINES += NAMES + PASSWORDS + CHARACTERS + LIKE_ANSWERS
+WITHOUT_PARTS = [b"", b":", b":x", b"no colon", b" "]
+ODD_LINES = WITHOUT_PARTS + NAMES + PASSWORDS + CHARACTERS + LIKE_ANSWERS
+SHARE_OF_ODD_LINES = 0.3
 
 HASH = MD5.encode()
-FIELDS = [
-    *(HASH, HASH[:-1], HASH + b"$x", b"!" + HASH),
-    *(b"", b"!", b"*", b"x" * 385, b"\xff", b"secret"),
-    *(b"$1$", b"$1$a b", b"$5$rounds=0$a", b"$6$rounds=999999999$a$b", b"$7$E/..../....a"),
-    *(b"$2b$10$x", b"$y$x", b"_abc", b"abcdefghijklm"),
+HASHES = [HASH, HASH[:-1], HASH + b"$x", b"!" + HASH]
+NO_HASHES = [b"", b"!", b"*", b"x" * 385, b"\xff", b"secret"]
+SETTINGS = [
+    b"$1$",
+    b"$1$a b",
+    b"$5$rounds=0$a",
+    b"$6$rounds=999999999$a$b",
+    b"$7$E/..../....a",
 ]
+OTHER_SCHEMES = [b"$2b$10$x", b"$y$x", b"_abc", b"abcdefghijklm"]
+FIELDS = HASHES + NO_HASHES + SETTINGS + OTHER_SCHEMES
+SHARE_OF_LINES_WITHOUT_FIELDS = 0.1
 
 
 def lines_of_passwords(seed: int) -> list[bytes]:
     """Returns lines for --batch: good, refused and long ones, and some that look like answers."""
     source = random.Random(seed)
-    return [
-        source.choice(ODD_LINES) if source.random() < 0.3 else b"user%d:password%d" % (n, n)
-        for n in range(COUNT)
-    ]
+    lines = []
+    for number in range(COUNT):
+        if source.random() < SHARE_OF_ODD_LINES:
+            lines.append(source.choice(ODD_LINES))
+        else:
+            lines.append(b"user%d:password%d" % (number, number))
+    return lines
 
 
 def lines_of_fields(seed: int) -> list[bytes]:
     """Returns lines for --check: stored fields of each kind, and some malformed lines."""
     source = random.Random(seed)
-    return [
-        line if source.random() < 0.1 else b"u%d:%b:password" % (n, source.choice(FIELDS))
-        for n, line in enumerate(lines_of_passwords(seed + 1))
-    ]
+    lines = lines_of_passwords(seed + 1)
+    for number in range(COUNT):
+        if source.random() >= SHARE_OF_LINES_WITHOUT_FIELDS:
+            lines[number] = b"u%d:%b:password" % (number, source.choice(FIELDS))
+    return lines
 
 
 @dataclass(frozen=True)
@@ -82,7 +93,14 @@ class Job:
 
 REHASH = ("--rehash", "-m", "sha256crypt", "-R", "1000", "-S", "ab")
 JOBS = [
-    Job("file", "file", "--batch", MD5CRYPT, ("--accept-doubtful",), ("--skip-refused",)),
+    Job(
+        "file",
+        "file",
+        "--batch",
+        MD5CRYPT,
+        more=("--accept-doubtful",),
+        more_of_file=("--skip-refused",),
+    ),
     Job("check", "check", "--check", ("-m", "md5crypt")),
     Job("rehash", "check", "--check", REHASH),
 ]

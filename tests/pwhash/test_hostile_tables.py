@@ -5,7 +5,7 @@ import pytest
 from support.pwhash_runs import ANN, BOB, BY_NUMBER, MD5CRYPT, lines_named_in, pwhash, save
 
 HEADING = b"name,password\n"
-# The first and last row are right, and the one between isn't.
+# Rows between two that are right.
 ROWS = [
     pytest.param(b"'cid','secret'", id="single quotes"),
     pytest.param("\u201ccid\u201d,\u201csecret\u201d".encode(), id="quotes of a word processor"),
@@ -41,6 +41,7 @@ def test_an_odd_row_is_named_by_its_line(row: bytes) -> None:
     table = HEADING + b"ann,pw1\n" + row + b"\nbob,pw2\n"
     done = pwhash("file", "--csv", *MD5CRYPT, stdin=table)
     assert (done.status, done.out) == (1, ANN + BOB), done
+    # A row with a line feed may be named by its first or its last line.
     assert set(lines_named_in(done.err)) & {3, 4} and b"secret" not in done.err, done
     done = pwhash("file", "--csv", "--look", save("table.csv", table))
     assert done.status == 1 and b"secret" not in done.err, done
@@ -58,7 +59,7 @@ def test_an_odd_row_is_named_by_its_line(row: bytes) -> None:
         pytest.param(b"name,password,password\nann,,secret\n", (), id="two columns of passwords"),
         pytest.param(b"password,name\nsecret,ann\n", BY_NUMBER, id="swapped columns by number"),
         pytest.param(b"sep=;\nname;password\nann;secret\n", (), id="Excel's separator line"),
-        pytest.param(b"name,password\nann,secret\n".decode().encode("utf-16"), (), id="UTF-16"),
+        pytest.param("name,password\nann,secret\n".encode("utf-16"), (), id="UTF-16"),
         pytest.param(b'name,password\nann,"secret\nbob,pw2\n', (), id="a quote without an end"),
         pytest.param(b'name,password\nann,"sec"ret\n', (), id="text after a quote"),
         pytest.param(b"name,password\rann,secret\r", (), id="line ends of an old Mac"),

@@ -12,8 +12,7 @@ from support.pwhash_runs import MD5CRYPT, PWHASH, hashed, type_secret
 with needed("python3-pexpect"):
     import pexpect
 
-
-# Runs pwhash as a job, and waits until the system has stopped it.
+# Runs pwhash as a job, and waits until the system has stopped it, which proc(5) shows as T.
 JOB = """
 set -m
 until_stopped() {

@@ -27,29 +27,40 @@ from support.pwhash_runs import (
 )
 
 INSTALL = ("install", "hashes", "target")
-ONE = hashed(b"one")
-SIX = SHA512CRYPT_AT_DEFAULT
+# Hashes by these methods.
+MD5CRYPT = hashed(b"one")
+SHA512CRYPT = SHA512CRYPT_AT_DEFAULT
 HOSTILE = b"$6$rounds=999999999$abcdefgh$" + b"x" * 86
 BCRYPT = crypt(b"password", b"$2b$04$abcdefghijklmnopqrstuu")
 YESCRYPT = crypt(b"password", b"$y$j75$abcdefghijklmnopqrstu.")
-HASHES = b"ann:" + ONE + b"\nbob:" + SIX + b":1000:1000::/home/bob\neve:!" + ONE + b"\n"
-OLD = b"ann:" + SIX + b"\n"
-REMOVALS = "--accept-removals"
-OTHERS = "--accept-other-schemes"
-BASE64 = b"7ynoyL9XN1Ol2E6qOpoGbBvdFsGTFwmO"
+HASHES = (
+    b"ann:"
+    + MD5CRYPT
+    + b"\nbob:"
+    + SHA512CRYPT
+    + b":1000:1000::/home/bob\neve:!"
+    + MD5CRYPT
+    + b"\n"
+)
+OLD = b"ann:" + SHA512CRYPT + b"\n"
+ACCEPT_REMOVALS = "--accept-removals"
+ACCEPT_OTHERS = "--accept-other-schemes"
+BASE64 = b"7ynoyL9XN1Ol2E6qOpoGbBvdFsGTFwmO"  # of a digest of SHA-1, and a salt of four bytes
 SALTED_SHA512 = base64.b64encode(hashlib.sha512(b"passwordsalt").digest() + b"salt")
 ARGON2 = b"$argon2id$v=19$m=65536,t=3,p=4$c2FsdHNhbHQ$" + b"x" * 43
 OWNER, GROUP, MODE = 65534, 4242, 0o640
-LEFT = ["hashes", "target", "target.mkpasswd.lock"]
-STARTED = ("/usr/bin/python3", "-I", "-S", str(PACKAGE / "pwhash/start.py"), str(LIBRARY), "pwhash")
+FILES_LEFT = ["hashes", "target", "target.mkpasswd.lock"]  # the lock stays for later runs
+# The command that bin/pwhash runs, so that strace counts only the calls from here on.
+START = ("/usr/bin/python3", "-I", "-S", str(PACKAGE / "pwhash/start.py"), str(LIBRARY), "pwhash")
 
 
-def beside() -> list[str]:
+def file_names() -> list[str]:
     """Returns the names of the files in the current folder."""
     return sorted(path.name for path in Path().iterdir())
 
 
 def rights_of(path: str) -> tuple[int, int, int]:
+    """Returns the mode, the owner and the group of a file."""
     status = os.stat(path)
     return stat.S_IMODE(status.st_mode), status.st_uid, status.st_gid
 
@@ -65,7 +76,12 @@ def test_an_existing_target_gets_the_lines_and_keeps_owner_and_mode() -> None:
     os.chmod("target", MODE)
     os.setxattr("target", "trusted.other", b"value")
     done = pwhash(*INSTALL)
-    assert (done.status, done.out, read("target"), beside()) == (0, b"", HASHES, LEFT), done
+    assert (done.status, done.out, read("target"), file_names()) == (
+        0,
+        b"",
+        HASHES,
+        FILES_LEFT,
+    ), done
     assert rights_of("target") == (MODE, OWNER, GROUP)
     assert os.getxattr("target", "trusted.other") == b"value"
     assert read("hashes") == HASHES
@@ -74,8 +90,8 @@ def test_an_existing_target_gets_the_lines_and_keeps_owner_and_mode() -> None:
 @pytest.mark.parametrize("mark", [b"!", b"!!", b"*"])
 def test_names_that_are_locked_in_target_stay_locked(mark: bytes) -> None:
     save("hashes", HASHES)
-    save("target", b"cid:" + SIX + b"\nbob:" + mark + b"old:7\n")
-    done = pwhash(*INSTALL, REMOVALS)
+    save("target", b"cid:" + SHA512CRYPT + b"\nbob:" + mark + b"old:7\n")
+    done = pwhash(*INSTALL, ACCEPT_REMOVALS)
     expected = HASHES.replace(b"bob:", b"bob:!")
     assert (done.status, read("target")) == (0, expected), done
     assert b"stay locked, as they were: bob." in done.err, done
@@ -83,7 +99,13 @@ def test_names_that_are_locked_in_target_stay_locked(mark: bytes) -> None:
 
 @pytest.mark.parametrize(
     "line",
-    [b"#bob:old\n", b"# bob:old\n", b"##bob:!\n", b"#\tbob:old\n", b"# left in May bob :old\n"],
+    [
+        pytest.param(b"#bob:old\n", id="at once"),
+        pytest.param(b"# bob:old\n", id="after a blank"),
+        pytest.param(b"##bob:!\n", id="after two signs"),
+        pytest.param(b"#\tbob:old\n", id="after a tab"),
+        pytest.param(b"# left in May bob :old\n", id="after a remark"),
+    ],
 )
 def test_names_that_are_commented_out_in_target_stay_out(line: bytes) -> None:
     save("hashes", HASHES)
@@ -96,19 +118,19 @@ def test_names_that_are_commented_out_in_target_stay_out(line: bytes) -> None:
 
 def test_a_comment_beside_a_line_of_the_same_name_locks_nobody() -> None:
     save("hashes", HASHES)
-    save("target", b"#bob:old\nbob:" + ONE + b"\n")
+    save("target", b"#bob:old\nbob:" + MD5CRYPT + b"\n")
     assert (pwhash(*INSTALL).status, read("target")) == (0, HASHES)
 
 
 def test_names_that_would_disappear_are_named_and_removed_only_on_demand() -> None:
     save("hashes", HASHES)
-    content = b"".join(b"old%d:%b\n" % (number, ONE) for number in range(25)) + OLD
+    content = b"".join(b"old%d:%b\n" % (number, MD5CRYPT) for number in range(25)) + OLD
     save("target", content)
     done = pwhash(*INSTALL)
-    assert (done.status, read("target"), beside()) == (1, content, ["hashes", "target"]), done
+    assert (done.status, read("target"), file_names()) == (1, content, ["hashes", "target"]), done
     assert b"old0, old1" in done.err and b"and 5 more" in done.err, done
-    assert REMOVALS.encode() in done.err, done
-    done = pwhash(*INSTALL, REMOVALS)
+    assert ACCEPT_REMOVALS.encode() in done.err, done
+    done = pwhash(*INSTALL, ACCEPT_REMOVALS)
     assert (done.status, read("target")) == (0, HASHES), done
     assert b"old0, old1" in done.err and b"and 5 more" in done.err, done
 
@@ -118,8 +140,8 @@ def test_names_that_would_disappear_are_named_and_removed_only_on_demand() -> No
     [
         pytest.param(b"x", id="a letter"),
         pytest.param(b"disabled", id="a word"),
-        pytest.param(b"LOCKED" + SIX, id="a word before the hash"),
-        pytest.param(SIX[:-1], id="a truncated hash"),
+        pytest.param(b"LOCKED" + SHA512CRYPT, id="a word before the hash"),
+        pytest.param(SHA512CRYPT[:-1], id="a truncated hash"),
         pytest.param(b"", id="nothing"),
         pytest.param(b"{CRYPT}x", id="a letter after a prefix"),
         pytest.param(b"{SSHA}x", id="a letter after a prefix of another scheme"),
@@ -133,15 +155,16 @@ def test_nobody_is_let_in_whom_target_may_keep_out(field: bytes) -> None:
     content = OLD + b"bob:" + field + b":7\n"
     save("target", content)
     done = pwhash(*INSTALL)
-    assert (done.status, read("target"), beside()) == (1, content, ["hashes", "target"]), done
+    assert (done.status, read("target"), file_names()) == (1, content, ["hashes", "target"]), done
     assert b"bob" in done.err and b"ann" not in done.err and b"--delete" in done.err, done
-    assert not field or field not in done.err.replace(b"fix", b""), done
+    shown = done.err.replace(b"fix", b"")  # the message's own word, whose x could be the field
+    assert not field or field not in shown, done
     assert pwhash("set", "--delete", "target", "bob").status == 0
     done = pwhash(*INSTALL)
     assert (done.status, read("target")) == (0, HASHES), done
 
 
-def test_a_name_that_is_locked_in_hashes_too_is_let_in_by_nothing() -> None:
+def test_a_name_that_is_locked_in_hashes_may_replace_one_that_target_may_keep_out() -> None:
     save("hashes", HASHES.replace(b"bob:", b"bob:!"))
     save("target", OLD + b"bob:disabled\n")
     done = pwhash(*INSTALL)
@@ -149,19 +172,43 @@ def test_a_name_that_is_locked_in_hashes_too_is_let_in_by_nothing() -> None:
 
 
 def test_further_fields_of_a_line_stay_unless_hashes_has_others() -> None:
-    hashes = b"ann:" + ONE + b"\nbob:" + SIX + b":1:1\ncid:" + ONE + b":\neve:" + ONE + b"\n"
+    hashes = (
+        b"ann:"
+        + MD5CRYPT
+        + b"\nbob:"
+        + SHA512CRYPT
+        + b":1:1\ncid:"
+        + MD5CRYPT
+        + b":\neve:"
+        + MD5CRYPT
+        + b"\n"
+    )
     save("hashes", hashes)
     fields = b":1000:1000::/home/ann::userdb_mail=maildir:~/Maildir"
-    save("target", b"ann:" + SIX + fields + b"\nbob:!" + SIX + b":7:7\ncid:" + SIX + b"::7\n")
+    save(
+        "target",
+        b"ann:"
+        + SHA512CRYPT
+        + fields
+        + b"\nbob:!"
+        + SHA512CRYPT
+        + b":7:7\ncid:"
+        + SHA512CRYPT
+        + b"::7\n",
+    )
     done = pwhash(*INSTALL)
-    expected = b"ann:" + ONE + fields + b"\nbob:!" + SIX + b":1:1\n"
-    expected += b"cid:" + ONE + b"::7\neve:" + ONE + b"\n"
+    expected = b"ann:" + MD5CRYPT + fields + b"\nbob:!" + SHA512CRYPT + b":1:1\n"
+    expected += b"cid:" + MD5CRYPT + b"::7\neve:" + MD5CRYPT + b"\n"
     assert (done.status, read("target")) == (0, expected), done
 
 
 @pytest.mark.parametrize(
     ("option", "value", "command"),
-    [("--owner", "1", b"chown"), ("--group", "1", b"chgrp"), ("--mode", "600", b"chmod")],
+    [
+        pytest.param("--owner", "1", b"chown", id="owner"),
+        pytest.param("--group", "1", b"chgrp", id="group"),
+        pytest.param("--mode", "600", b"chmod", id="mode"),
+    ],
 )
 def test_another_owner_group_or_mode_for_an_existing_file_is_refused(
     option: str, value: str, command: bytes
@@ -188,7 +235,7 @@ def test_the_files_own_owner_group_and_mode_are_accepted() -> None:
 def test_a_new_target_is_readable_by_its_owner_alone() -> None:
     save("hashes", HASHES)
     done = pwhash(*INSTALL)
-    assert (done.status, read("target"), beside()) == (0, HASHES, LEFT), done
+    assert (done.status, read("target"), file_names()) == (0, HASHES, FILES_LEFT), done
     assert rights_of("target") == (0o600, os.geteuid(), os.getegid())
 
 
@@ -228,7 +275,7 @@ def test_a_last_line_without_a_line_feed_gets_one() -> None:
 def test_an_invalid_owner_group_or_mode_is_refused(words: tuple[str, ...]) -> None:
     save("hashes", HASHES)
     done = pwhash(*INSTALL, *words)
-    assert (done.status, beside()) == (2, ["hashes"]), done
+    assert (done.status, file_names()) == (2, ["hashes"]), done
 
 
 # ---- Refused lines
@@ -238,53 +285,91 @@ def test_an_invalid_owner_group_or_mode_is_refused(words: tuple[str, ...]) -> No
     ("line", "reason", "words"),
     [
         pytest.param(b"eva:" + HOSTILE, b"over budget", "", id="a hash that stalls a login"),
-        pytest.param(b"eva:" + SIX[:-1], b"dead", "", id="a truncated hash"),
+        pytest.param(b"eva:" + SHA512CRYPT[:-1], b"dead", "", id="a truncated hash"),
         pytest.param(b"eva:secret", b"no scheme", "", id="a plain password"),
         pytest.param(b"eva:", b"empty field", "", id="an empty field"),
         pytest.param(b"eva:" + BCRYPT, b"--accept-other-schemes", "", id="another scheme"),
         pytest.param(b"eva:{SSHA}" + BASE64, b"--accept-other-schemes", "", id="an LDAP hash"),
         pytest.param(b"eva:{PLAIN}secret", b"prefix", "", id="a prefix for plain passwords"),
-        pytest.param(b"eva:{PLAIN}secret", b"prefix", OTHERS, id="a plain one, with others"),
-        pytest.param(b"eva:{CLEARTEXT}secret", b"prefix", OTHERS, id="LDAP's, with others"),
-        pytest.param(b"eva:secret", b"no scheme", OTHERS, id="a bare one, with others"),
-        pytest.param(b"eva:{SSHA}", b"empty", OTHERS, id="a prefix alone, with others"),
-        pytest.param(b"eva:{SSHA}x", b"by its form", OTHERS, id="no digest, with others"),
-        pytest.param(b"eva:{SHA}hunter2", b"by its form", OTHERS, id="a password, with others"),
-        pytest.param(b"eva:{MD5}" + BASE64, b"by its form", OTHERS, id="another length"),
-        pytest.param(b"eva:{ARGON2ID}hunter2", b"by its form", OTHERS, id="no argon2, with others"),
+        pytest.param(b"eva:{PLAIN}secret", b"prefix", ACCEPT_OTHERS, id="a plain one, with others"),
+        pytest.param(b"eva:{CLEARTEXT}secret", b"prefix", ACCEPT_OTHERS, id="LDAP's, with others"),
+        pytest.param(b"eva:secret", b"no scheme", ACCEPT_OTHERS, id="a bare one, with others"),
+        pytest.param(b"eva:{SSHA}", b"empty", ACCEPT_OTHERS, id="a prefix alone, with others"),
+        pytest.param(b"eva:{SSHA}x", b"by its form", ACCEPT_OTHERS, id="no digest, with others"),
         pytest.param(
-            b"eva:{BLF-CRYPT}" + BCRYPT[:-1], b"by its form", OTHERS, id="cut behind a prefix"
+            b"eva:{SHA}hunter2", b"by its form", ACCEPT_OTHERS, id="a password, with others"
         ),
-        pytest.param(b"eva:$ecret$secret", b"by its form", OTHERS, id="a dollar sign, with others"),
-        pytest.param(b"eva:$9$secret", b"by its form", OTHERS, id="another number, with others"),
-        pytest.param(b"eva:$2b$secret", b"by its form", OTHERS, id="bcrypt's sign, with others"),
-        pytest.param(b"eva:" + BCRYPT[:-1], b"by its form", OTHERS, id="cut bcrypt, with others"),
-        pytest.param(b"eva:" + BCRYPT + b"x", b"by its form", OTHERS, id="longer, with others"),
-        pytest.param(b"eva:" + YESCRYPT[:-9], b"by its form", OTHERS, id="cut yescrypt"),
-        pytest.param(b"eva:secretsecrets", b"by its form", OTHERS, id="13 letters, with others"),
-        pytest.param(b"eva:{CRYPT}$ecret", b"by its form", OTHERS, id="after {CRYPT}, with others"),
-        pytest.param(b"eva:" + HOSTILE, b"over budget", OTHERS, id="a costly one, with others"),
-        pytest.param(b"eva:" + SIX[:-1], b"dead", OTHERS, id="a truncated one, with others"),
+        pytest.param(b"eva:{MD5}" + BASE64, b"by its form", ACCEPT_OTHERS, id="another length"),
         pytest.param(
-            b"eva:{SSHA}" + BASE64, b"prefix", f"{OTHERS} --for apache", id="{SSHA} for Apache"
+            b"eva:{ARGON2ID}hunter2", b"by its form", ACCEPT_OTHERS, id="no argon2, with others"
         ),
-        pytest.param(b"eva:{CRYPT}" + BCRYPT, b"prefix", f"{OTHERS} --for nginx", id="for nginx"),
-        pytest.param(b"eva:{MD5-CRYPT}" + BCRYPT, b"another method", OTHERS, id="unfit, bcrypt"),
-        pytest.param(b"eva:{CRYPT}" + ONE, b"prefix", "--for nginx", id="a prefix for nginx"),
-        pytest.param(b"eva:{MD5-CRYPT}" + SIX, b"another method", "", id="the wrong prefix"),
+        pytest.param(
+            b"eva:{BLF-CRYPT}" + BCRYPT[:-1],
+            b"by its form",
+            ACCEPT_OTHERS,
+            id="cut behind a prefix",
+        ),
+        pytest.param(
+            b"eva:$ecret$secret", b"by its form", ACCEPT_OTHERS, id="a dollar sign, with others"
+        ),
+        pytest.param(
+            b"eva:$9$secret", b"by its form", ACCEPT_OTHERS, id="another number, with others"
+        ),
+        pytest.param(
+            b"eva:$2b$secret", b"by its form", ACCEPT_OTHERS, id="bcrypt's sign, with others"
+        ),
+        pytest.param(
+            b"eva:" + BCRYPT[:-1], b"by its form", ACCEPT_OTHERS, id="cut bcrypt, with others"
+        ),
+        pytest.param(
+            b"eva:" + BCRYPT + b"x", b"by its form", ACCEPT_OTHERS, id="longer, with others"
+        ),
+        pytest.param(b"eva:" + YESCRYPT[:-9], b"by its form", ACCEPT_OTHERS, id="cut yescrypt"),
+        pytest.param(
+            b"eva:secretsecrets", b"by its form", ACCEPT_OTHERS, id="13 letters, with others"
+        ),
+        pytest.param(
+            b"eva:{CRYPT}$ecret", b"by its form", ACCEPT_OTHERS, id="after {CRYPT}, with others"
+        ),
+        pytest.param(
+            b"eva:" + HOSTILE, b"over budget", ACCEPT_OTHERS, id="a costly one, with others"
+        ),
+        pytest.param(
+            b"eva:" + SHA512CRYPT[:-1], b"dead", ACCEPT_OTHERS, id="a truncated one, with others"
+        ),
+        pytest.param(
+            b"eva:{SSHA}" + BASE64,
+            b"prefix",
+            f"{ACCEPT_OTHERS} --for apache",
+            id="{SSHA} for Apache",
+        ),
+        pytest.param(
+            b"eva:{CRYPT}" + BCRYPT, b"prefix", f"{ACCEPT_OTHERS} --for nginx", id="for nginx"
+        ),
+        pytest.param(
+            b"eva:{MD5-CRYPT}" + BCRYPT, b"another method", ACCEPT_OTHERS, id="unfit, bcrypt"
+        ),
+        pytest.param(b"eva:{CRYPT}" + MD5CRYPT, b"prefix", "--for nginx", id="a prefix for nginx"),
+        pytest.param(
+            b"eva:{MD5-CRYPT}" + SHA512CRYPT, b"another method", "", id="the wrong prefix"
+        ),
         pytest.param(b"eva:{CRYPT}" + HOSTILE, b"over budget", "", id="after a prefix"),
-        pytest.param(b"eva:" + ONE + b"\r", b"carriage return", "", id="a line from Windows"),
-        pytest.param(b"ann:" + ONE, b"after line 1", "", id="a repeated name"),
-        pytest.param(b":" + ONE, b"no name", "", id="no name"),
+        pytest.param(b"eva:" + MD5CRYPT + b"\r", b"carriage return", "", id="a line from Windows"),
+        pytest.param(b"ann:" + MD5CRYPT, b"after line 1", "", id="a repeated name"),
+        pytest.param(b":" + MD5CRYPT, b"no name", "", id="no name"),
         pytest.param(b"", b"no name", "", id="an empty line"),
         pytest.param(b"secret", b"no colon", "", id="no colon"),
-        pytest.param(b"#eva:" + ONE, b"begins with #", "", id="a comment"),
-        pytest.param(b"eva\x01:" + ONE, b"invisible", "", id="a control character"),
-        pytest.param(b" eva:" + ONE, b"blank", "", id="a leading blank"),
-        pytest.param(b"Eva:" + ONE, b"another, or skips", "--for dovecot", id="for Dovecot"),
-        pytest.param(b"e va:" + ONE, b"another, or skips", "--for ldap", id="for LDAP"),
-        pytest.param(b"eva:" + ONE + b":" * 2048, b"too long", "", id="a line that is too long"),
-        pytest.param(b"eva:" + SIX, b"over budget", "--budget 1000", id="over the budget given"),
+        pytest.param(b"#eva:" + MD5CRYPT, b"begins with #", "", id="a comment"),
+        pytest.param(b"eva\x01:" + MD5CRYPT, b"invisible", "", id="a control character"),
+        pytest.param(b" eva:" + MD5CRYPT, b"blank", "", id="a leading blank"),
+        pytest.param(b"Eva:" + MD5CRYPT, b"another, or skips", "--for dovecot", id="for Dovecot"),
+        pytest.param(b"e va:" + MD5CRYPT, b"another, or skips", "--for ldap", id="for LDAP"),
+        pytest.param(
+            b"eva:" + MD5CRYPT + b":" * 2048, b"too long", "", id="a line that is too long"
+        ),
+        pytest.param(
+            b"eva:" + SHA512CRYPT, b"over budget", "--budget 1000", id="over the budget given"
+        ),
     ],
 )
 def test_a_wrong_line_is_named_and_nothing_is_installed(
@@ -293,14 +378,14 @@ def test_a_wrong_line_is_named_and_nothing_is_installed(
     save("hashes", HASHES + line + b"\n")
     save("target", OLD)
     done = pwhash(*INSTALL, *words.split())
-    assert (done.status, read("target"), beside()) == (1, OLD, ["hashes", "target"]), done
+    assert (done.status, read("target"), file_names()) == (1, OLD, ["hashes", "target"]), done
     assert b"hashes, line 4" in done.err and reason in done.err, done
     assert b"secret" not in done.err and b"\x01" not in done.err, done
 
 
 @pytest.mark.parametrize("words", ["", "--for dovecot"])
 def test_a_hash_after_a_prefix_is_installed(words: str) -> None:
-    content = b"ann:{CRYPT}" + ONE + b"\nbob:{SHA512-CRYPT}" + SIX + b"\n"
+    content = b"ann:{CRYPT}" + MD5CRYPT + b"\nbob:{SHA512-CRYPT}" + SHA512CRYPT + b"\n"
     save("hashes", content)
     done = pwhash(*INSTALL, *words.split())
     assert (done.status, read("target")) == (0, content), done
@@ -331,8 +416,8 @@ def test_a_hash_of_another_scheme_is_installed_if_others_are_accepted(
     save("hashes", content)
     done = pwhash(*INSTALL, *words.split())
     assert done.status == 1 and b"--accept-other-schemes" in done.err, done
-    assert beside() == ["hashes"], done
-    done = pwhash(*INSTALL, OTHERS, *words.split())
+    assert file_names() == ["hashes"], done
+    done = pwhash(*INSTALL, ACCEPT_OTHERS, *words.split())
     assert (done.status, read("target")) == (0, content), done
 
 
@@ -346,7 +431,7 @@ def test_only_some_of_many_wrong_lines_are_shown() -> None:
     save("hashes", b"".join(b"user%d:x\n" % number for number in range(1000)))
     done = pwhash(*INSTALL)
     assert done.status == 1 and b"1,000 of 1,000 lines" in done.err, done
-    assert done.err.count(b"\n") == 21, done
+    assert done.err.count(b"\n") == 20 + 1, done  # the lines that are shown, and a summary
 
 
 @pytest.mark.parametrize(
@@ -354,7 +439,7 @@ def test_only_some_of_many_wrong_lines_are_shown() -> None:
     [
         pytest.param(None, 3, id="missing"),
         pytest.param(b"", 2, id="empty"),
-        pytest.param(b"ann:" + SIX + b":19000:0:99999:7:::\n", 2, id="of shadow"),
+        pytest.param(b"ann:" + SHA512CRYPT + b":19000:0:99999:7:::\n", 2, id="of shadow"),
     ],
 )
 def test_a_file_without_hashes_is_refused(content: bytes | None, status: int) -> None:
@@ -381,13 +466,13 @@ def test_a_link_to_nothing_is_refused() -> None:
     save("hashes", HASHES)
     os.symlink("other", "target")
     done = pwhash(*INSTALL)
-    assert (done.status, beside()) == (2, ["hashes", "target"]), done
+    assert (done.status, file_names()) == (2, ["hashes", "target"]), done
 
 
 def test_the_input_file_is_refused_as_target() -> None:
     save("hashes", HASHES)
     done = pwhash("install", "hashes", "./hashes")
-    assert (done.status, beside()) == (2, ["hashes"]), done
+    assert (done.status, file_names()) == (2, ["hashes"]), done
 
 
 @pytest.mark.parametrize("has_target", [True, False], ids=["a file", "a new file"])
@@ -399,7 +484,8 @@ def test_a_folder_that_others_can_write_is_refused(has_target: bool) -> None:
     os.chmod("folder", 0o777)
     done = pwhash("install", "hashes", "folder/target")
     assert done.status == 2 and b"others can write" in done.err, done
-    assert os.listdir("folder") == ["target"] * has_target
+    expected = ["target"] if has_target else []
+    assert os.listdir("folder") == expected
 
 
 @pytest.mark.parametrize(
@@ -407,11 +493,13 @@ def test_a_folder_that_others_can_write_is_refused(has_target: bool) -> None:
     [
         pytest.param(b"auth_basic Members;\n", b"no colon", id="a configuration"),
         pytest.param(
-            b"# list: of\n\nann:" + SIX + b"\nbob\n", b"no colon", id="a line without a colon"
+            b"# list: of\n\nann:" + SHA512CRYPT + b"\nbob\n",
+            b"no colon",
+            id="a line without a colon",
         ),
         pytest.param(b"\x7fELF\0\0\n\xff", b"no colon", id="a program"),
-        pytest.param(b"ann: " + SIX + b"\n", b"blank", id="YAML"),
-        pytest.param(b"users:\n  ann:" + SIX + b"\n", b"blank", id="indented YAML"),
+        pytest.param(b"ann: " + SHA512CRYPT + b"\n", b"blank", id="YAML"),
+        pytest.param(b"users:\n  ann:" + SHA512CRYPT + b"\n", b"blank", id="indented YAML"),
         pytest.param(b"users:x:100:ann,bob\n", b"no line with a hash", id="a file of groups"),
         pytest.param(b"color:red\nann:\n", b"no line with a hash", id="another configuration"),
     ],
@@ -419,12 +507,20 @@ def test_a_folder_that_others_can_write_is_refused(has_target: bool) -> None:
 def test_a_file_that_holds_no_passwords_is_not_replaced(content: bytes, reason: bytes) -> None:
     save("hashes", HASHES)
     save("target", content)
-    done = pwhash(*INSTALL, REMOVALS)
+    done = pwhash(*INSTALL, ACCEPT_REMOVALS)
     assert (done.status, done.out) == (2, b"") and reason in done.err, done
-    assert read("target") == content and beside() == ["hashes", "target"], done
+    assert read("target") == content and file_names() == ["hashes", "target"], done
 
 
-@pytest.mark.parametrize("content", [b"", b"\n", b"# none yet\n", OLD + b" \n"])
+@pytest.mark.parametrize(
+    "content",
+    [
+        pytest.param(b"", id="none"),
+        pytest.param(b"\n", id="a blank line"),
+        pytest.param(b"# none yet\n", id="a comment"),
+        pytest.param(OLD + b" \n", id="a line, and a blank one"),
+    ],
+)
 def test_a_password_file_of_few_lines_is_replaced(content: bytes) -> None:
     save("hashes", HASHES)
     save("target", content)
@@ -457,7 +553,7 @@ def test_the_systems_own_file_is_refused() -> None:
         cp -p /etc/passwd /etc/group /etc/ld.so.cache etc
         echo ann:x > etc/shadow
         mount --bind etc /etc
-        "$@" && exit 9
+        if "$@"; then exit 9; fi
         [ "$(cat /etc/shadow)" = ann:x ]
     """
     done = in_namespace(script, "install", "hashes", "/etc/shadow")
@@ -468,24 +564,25 @@ def test_the_systems_own_file_is_refused() -> None:
 
 
 def test_after_simultaneous_runs_one_whole_file_remains() -> None:
-    contents = []
-    for number in range(8):
-        contents.append(b"".join(b"user%d:%b\n" % (each + number, ONE) for each in range(5000)))
-        save(f"hashes{number}", contents[-1])
+    contents = {}
+    for first in range(8):
+        users = range(first, first + 5000)
+        contents[f"hashes{first}"] = b"".join(b"user%d:%b\n" % (user, MD5CRYPT) for user in users)
+    for name, content in contents.items():
+        save(name, content)
     with ThreadPoolExecutor(4) as pool:
         runs = [
-            pool.submit(pwhash, "install", REMOVALS, f"hashes{number}", "target")
-            for number in range(8)
+            pool.submit(pwhash, "install", ACCEPT_REMOVALS, name, "target") for name in contents
         ]
     ends = [run.result() for run in runs]
     # If several runs find no file, one of them creates it and the others fail.
     assert all(done.status in (0, 3) for done in ends), "\n".join(map(str, ends))
-    assert any(done.status == 0 for done in ends) and read("target") in contents
+    assert any(done.status == 0 for done in ends) and read("target") in contents.values()
 
 
 def traced(inject: str) -> Ended:
     """Installs the hashes while strace injects a failure or a signal at a system call."""
-    command = ["strace", "-qq", "-o", "/dev/null", "-e", f"inject={inject}", *STARTED, *INSTALL]
+    command = ["strace", "-qq", "-o", "/dev/null", "-e", f"inject={inject}", *START, *INSTALL]
     return ended(started_program(*command))
 
 
@@ -502,13 +599,18 @@ def test_a_killed_installation_leaves_the_old_or_the_new_file(call: str, has_tar
     if has_target or os.path.exists("target"):
         assert read("target") in (OLD, HASHES)
     done = pwhash(*INSTALL)
-    assert (done.status, read("target"), beside()) == (0, HASHES, LEFT), done
+    assert (done.status, read("target"), file_names()) == (0, HASHES, FILES_LEFT), done
 
 
 @pytest.mark.needs("strace")
 @pytest.mark.parametrize(
     ("call", "error"),
-    [("flock", "ENOLCK"), ("fchown", "EPERM"), ("fsync", "ENOSPC"), ("linkat", "EACCES")],
+    [
+        pytest.param("flock", "ENOLCK", id="no lock"),
+        pytest.param("fchown", "EPERM", id="no permission to set the owner"),
+        pytest.param("fsync", "ENOSPC", id="a full disk"),
+        pytest.param("linkat", "EACCES", id="no permission to create a name"),
+    ],
 )
 @pytest.mark.parametrize("has_target", [True, False], ids=["a file", "a new file"])
 def test_a_system_call_that_fails_installs_nothing(call: str, error: str, has_target: bool) -> None:
@@ -517,7 +619,7 @@ def test_a_system_call_that_fails_installs_nothing(call: str, error: str, has_ta
         save("target", OLD)
     done = traced(f"{call}:error={error}")
     assert done.status == 3 and done.err.startswith(b"pwhash: "), done
-    assert os.path.exists("target") == has_target and set(beside()) <= set(LEFT), done
+    assert os.path.exists("target") == has_target and set(file_names()) <= set(FILES_LEFT), done
     assert not has_target or read("target") == OLD
 
 
@@ -528,7 +630,7 @@ def test_a_signal_while_the_file_is_written_undoes_nothing(has_target: bool) -> 
     if has_target:
         save("target", OLD)
     done = traced("fsync:signal=TERM:when=1")
-    assert (done.status, read("target"), beside()) == (0, HASHES, LEFT), done
+    assert (done.status, read("target"), file_names()) == (0, HASHES, FILES_LEFT), done
     assert b"SIGTERM" in done.err, done
 
 
@@ -539,7 +641,7 @@ def test_install_works_without_proc(has_target: bool) -> None:
     if has_target:
         save("target", OLD)
     done = in_namespace('mount -t tmpfs none /proc; "$@"', *INSTALL)
-    assert (done.status, read("target"), beside()) == (0, HASHES, LEFT), done
+    assert (done.status, read("target"), file_names()) == (0, HASHES, FILES_LEFT), done
 
 
 @pytest.mark.needs("cc")
@@ -549,8 +651,6 @@ def test_install_works_on_a_file_system_without_o_tmpfile(has_target: bool, fold
     save("hashes", HASHES)
     if has_target:
         save("target", OLD)
-    done = ended(
-        started_program("env", f"LD_PRELOAD={library}", "NO_TMPFILE=1", *STARTED, *INSTALL)
-    )
+    done = ended(started_program("env", f"LD_PRELOAD={library}", "NO_TMPFILE=1", *START, *INSTALL))
     library.unlink()
-    assert (done.status, read("target"), beside()) == (0, HASHES, LEFT), done
+    assert (done.status, read("target"), file_names()) == (0, HASHES, FILES_LEFT), done

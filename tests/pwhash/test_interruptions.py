@@ -15,6 +15,7 @@ from support.process import run
 from support.pwhash_copies import Copy
 from support.pwhash_runs import (
     PWHASH,
+    Ended,
     command_to_go_on,
     ended,
     read,
@@ -26,9 +27,18 @@ from support.pwhash_runs import (
 SIGNALS = 40
 NUMBERS = (signal.SIGINT, signal.SIGTERM, signal.SIGHUP, signal.SIGKILL)
 WORDS = ("-m", "sha512crypt", "-R", "5000", "-S", "saltsalt")
-LINES = b"".join(b"user%d:password%d\n" % (n, n) if n % 17 else b"no colon\n" for n in range(300))
 FIRST = f"{PWHASH} file {' '.join(WORDS)} 'my lines' -o out --skip-refused"
 PART = "out.part"
+LARGEST_STEP = 6000  # bytes that a run adds to the part before it gets a signal
+
+
+def lines() -> bytes:
+    """Returns 300 lines, of which every seventeenth is refused."""
+    numbers = range(300)
+    return b"".join(
+        b"no colon\n" if number % 17 == 0 else b"user%d:password%d\n" % (number, number)
+        for number in numbers
+    )
 
 
 def size_of_part() -> int:
@@ -51,7 +61,15 @@ class Interrupted:
     def run_once(self) -> None:
         """Runs the command to its end, or until it gets a signal at a random moment."""
         number = self.source.choice(NUMBERS)
-        goal = max(0, size_of_part()) + self.source.randrange(6000)
+        goal = max(0, size_of_part()) + self.source.randrange(LARGEST_STEP)
+        done = self.run_to(goal, number)
+        if os.path.exists("out"):
+            self.start_again(number, done)
+        else:
+            self.resume(number, done)
+
+    def run_to(self, goal: int, number: signal.Signals) -> Ended:
+        """Runs the command, and sends it a signal once its part has grown to this size."""
         with started_program("/bin/sh", "-c", f"exec {self.command}") as process:
             while process.poll() is None and self.sent < SIGNALS:
                 if size_of_part() >= goal:
@@ -59,16 +77,20 @@ class Interrupted:
                     self.sent += 1
                     break
                 time.sleep(0.01)
-            done = ended(process)
-        if os.path.exists("out"):
-            assert read("out") == self.expected, done
-            os.remove("out")
-            if number == signal.SIGKILL:  # SIGKILL can come before the part is removed
-                for left in glob.glob(f"{PART}*"):
-                    os.remove(left)
-            self.command = FIRST
-            self.finished += 1
-            return
+            return ended(process)
+
+    def start_again(self, number: signal.Signals, done: Ended) -> None:
+        """Checks the output of a complete run, and removes it."""
+        assert read("out") == self.expected, done
+        os.remove("out")
+        if number == signal.SIGKILL:  # SIGKILL can come before the part is removed
+            for left in glob.glob(f"{PART}*"):
+                os.remove(left)
+        self.command = FIRST
+        self.finished += 1
+
+    def resume(self, number: signal.Signals, done: Ended) -> None:
+        """Checks the part of an interrupted run. The next command is the one that it printed."""
         assert done.status in (-number, 3), done
         assert self.expected.startswith(read(PART).rpartition(b"\n")[0]), done
         is_silent = number == signal.SIGKILL
@@ -78,9 +100,9 @@ class Interrupted:
 
 @pytest.mark.slow
 def test_the_printed_command_resumes_an_interrupted_run(program: Path) -> None:
-    """Sends forty signals, at random moments from a fixed seed."""
-    save("my lines", LINES)
-    expected = run(program, "--batch", *WORDS, stdin=LINES).stdout
+    """Sends forty signals. Their moments follow from a fixed seed."""
+    save("my lines", lines())
+    expected = run(program, "--batch", *WORDS, stdin=lines()).stdout
     interrupted = Interrupted(random.Random(5), expected)
     while interrupted.sent < SIGNALS or not interrupted.finished:
         interrupted.run_once()

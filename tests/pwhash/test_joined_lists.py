@@ -1,7 +1,6 @@
 """Joined lists: headings and byte order marks inside them don't become users."""
 from __future__ import annotations
 
-
 import pytest
 from support.pwhash_runs import (
     ANN,
@@ -17,20 +16,20 @@ from support.pwhash_runs import (
 
 
 @pytest.mark.parametrize(
-    ("table", "words"),
+    ("table", "words", "line"),
     [
-        pytest.param(b"name,password,mail\nann,pw1,a\nname,password\nbob,pw2\n", (), id="fewer"),
-        pytest.param(b"name,password\nann,pw1\nName, PASSWORD\nbob,pw2\n", (), id="capitals"),
-        pytest.param(b"ann,pw1\nname,password\nbob,pw2\n", BY_NUMBER, id="by number"),
+        pytest.param(
+            b"name,password,mail\nann,pw1,a\nname,password\nbob,pw2\n", (), 3, id="fewer columns"
+        ),
+        pytest.param(b"name,password\nann,pw1\nName, PASSWORD\nbob,pw2\n", (), 3, id="capitals"),
+        pytest.param(b"ann,pw1\nname,password\nbob,pw2\n", BY_NUMBER, 2, id="by number"),
     ],
 )
-def test_the_heading_of_a_joined_table_is_not_a_user(table: bytes, words: tuple[str, ...]) -> None:
+def test_the_heading_of_a_joined_table_is_not_a_user(
+    table: bytes, words: tuple[str, ...], line: int
+) -> None:
     done = pwhash("file", "--csv", *MD5CRYPT, *words, stdin=table)
-    assert (done.status, done.out, lines_named_in(done.err)) == (
-        1,
-        ANN + BOB,
-        [3 - len(words) // 2],
-    )
+    assert (done.status, done.out, lines_named_in(done.err)) == (1, ANN + BOB, [line]), done
 
 
 @pytest.mark.parametrize(
@@ -44,7 +43,8 @@ def test_the_heading_of_a_joined_table_is_not_a_user(table: bytes, words: tuple[
 def test_a_joined_table_with_other_columns_ends_the_run(first: bytes, second: bytes) -> None:
     table = first + b"\nann,pw1\n" + second + b"\nsecret2,bob,secret2\n"
     done = pwhash("file", "--csv", *MD5CRYPT, stdin=table)
-    assert done.status == 2 and ANN.startswith(done.out) and lines_named_in(done.err) == [3], done
+    assert done.status == 2 and lines_named_in(done.err) == [3], done
+    assert ANN.startswith(done.out), done  # the run may end before it has printed Ann's hash
     assert b"secret2" not in done.out + done.err, done
 
 

@@ -20,15 +20,15 @@ from support.pwhash_runs import BOM, MD5, hashed, pwhash, read, save
 def test_a_refused_password_is_named_by_its_line(name: bytes, word: bytes, reason: bytes) -> None:
     costly = hashed(b"password", "$6$rounds=400000$saltsaltsaltsalt")
     save("shadow", b"ann:%b:1:::\nbob:%b:1:::\n" % (costly, costly))
-    words = b"first\n" + name + word + b"\n" + b"ann:password\n"
-    done = pwhash("check", "--shadow", "shadow", stdin=words)
+    tried = b"first\n" + name + word + b"\n" + b"ann:password\n"
+    done = pwhash("check", "--shadow", "shadow", stdin=tried)
     assert done.status == 1 and b"ann:ok\n" in done.out, done
     assert done.err.count(b"line 2 ") == 1 and reason in done.err, done
     assert b"ann isn't checked" not in done.err and b"xx" not in done.err, done
 
 
 @pytest.mark.parametrize(
-    ("line", "is_left_out"),
+    ("line", "does_windows_drop_it"),
     [
         pytest.param(BOM + b"ann:password", True, id="a mark before a name"),
         pytest.param(BOM + b"password", True, id="a mark before a lone password"),
@@ -37,7 +37,7 @@ def test_a_refused_password_is_named_by_its_line(name: bytes, word: bytes, reaso
     ],
 )
 def test_a_list_of_known_passwords_reports_marks_and_carriage_returns(
-    line: bytes, is_left_out: bool
+    line: bytes, does_windows_drop_it: bool
 ) -> None:
     save("shadow", b"ann:" + MD5.encode() + b":1:::\n")
     lines = b"ann:other\n" + line + b"\n"
@@ -45,8 +45,8 @@ def test_a_list_of_known_passwords_reports_marks_and_carriage_returns(
     assert done.status == 1 and b"ann:ok" not in done.out, done
     assert re.search(rb"byte order mark.*\[2\]", done.err) and b"word" not in done.err, done
     done = pwhash("check", "--windows", "--shadow", "shadow", stdin=lines)
-    assert (b"ann:ok" in done.out) == is_left_out, done
-    assert (b"[2]" in done.err) != is_left_out, done
+    assert (b"ann:ok" in done.out) == does_windows_drop_it, done
+    assert (b"[2]" in done.err) != does_windows_drop_it, done
 
 
 # ---- Findings

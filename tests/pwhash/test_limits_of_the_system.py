@@ -22,14 +22,14 @@ from support.pwhash_runs import (
 
 def test_without_python_the_message_says_so() -> None:
     script = """
-        for python in $(readlink -f /usr/bin/python3); do mount --bind /dev/null "$python"; done
+        mount --bind /dev/null "$(readlink -f /usr/bin/python3)"
         "$@"
     """
     done = in_namespace(script, *MD5CRYPT, stdin=b"x\n")
     assert done.status == 3 and b"/usr/bin/python3 is missing" in done.err, done
 
 
-@pytest.mark.parametrize("status", [125, 1], ids=["of coreutils 8.30", "of BusyBox"])
+@pytest.mark.parametrize("status", [125, 1], ids=["coreutils 8.30", "BusyBox"])
 def test_an_env_that_is_too_old_is_named(status: int) -> None:
     script = f"""
         echo '#!/bin/sh' > env
@@ -76,9 +76,12 @@ def test_with_little_memory_no_python_error_or_password_is_shown(kibibytes: int)
 # ---- Limits of a process
 
 
-def seen_under(limit: str, limits: range, expected: bytes) -> set[int]:
+def statuses_under(limit: str, limits: range) -> set[int]:
     """Returns the exit statuses under these limits. Fails if a line is lost or refused."""
     lines = users(50)
+    expected = b"".join(
+        b"user%d:%b\n" % (number, hashed(b"password%d" % number)) for number in range(50)
+    )
     statuses = set()
     for most in limits:
         command = ("prlimit", f"--{limit}={most}", PWHASH, "file", *MD5CRYPT)
@@ -98,14 +101,16 @@ def seen_under(limit: str, limits: range, expected: bytes) -> set[int]:
     ],
 )
 def test_a_run_is_complete_or_fails(limit: str, limits: range) -> None:
-    expected = b"".join(b"user%d:%b\n" % (n, hashed(b"password%d" % n)) for n in range(50))
-    statuses = seen_under(limit, limits, expected)
+    statuses = statuses_under(limit, limits)
     assert 0 in statuses and len(statuses) > 1, statuses
 
 
 def run_as_somebody(copy: Copy, most: int) -> Result:
-    """Runs pwhash as a user who has no other processes and may have at most `most`."""
-    user = 60000 + os.getpid() % 5000
+    """Runs pwhash as a user who has no other processes and may have at most `most`.
+
+    The user's number differs from that of another worker of pytest.
+    """
+    user = 60_000 + os.getpid() % 5_000
     limit = ("prlimit", f"--nproc={most}", "setpriv", f"--reuid={user}", "--regid=65534")
     before = (*limit, "--clear-groups", "--")
     return copy.run("file", *MD5CRYPT, stdin=b"ann:x\nbob:y\n", before=before)

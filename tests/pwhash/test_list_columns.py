@@ -29,6 +29,7 @@ TABLE = "last;first;login;class\r\nMüller;Ann;ann;5a\r\nXu;Bob;bob;5b\r\n O'Nei
 
 
 def rows_of(path: str, separator: str = ";") -> list[list[str]]:
+    """Reads a list as CSV. Its heading is the first row."""
     return list(csv.reader(io.StringIO(read(path).decode("utf-8-sig")), delimiter=separator))
 
 
@@ -82,7 +83,7 @@ def test_columns_can_be_given_by_number() -> None:
         pytest.param(b'"Meyer ""Max"""', 'Meyer "Max"', id="quotes"),
         pytest.param(b"Meyer, Max", "Meyer, Max", id="another separator"),
         pytest.param(b"Meyer-Lang", "Meyer-Lang", id="a hyphen within"),
-        pytest.param(b"x" * 1000, "x" * 1000, id="a long one"),
+        pytest.param(b"x" * 1000, "x" * 1000, id="a thousand letters"),
     ],
 )
 def test_a_value_is_unchanged_in_the_list(field: bytes, value: str) -> None:
@@ -174,7 +175,7 @@ def test_a_column_that_no_list_gets_can_have_the_heading_name() -> None:
         pytest.param(
             "file table --generate -o h --passwords l --list-columns last",
             b"needs --csv",
-            id="list",
+            id="of names that aren't in a table",
         ),
     ],
 )
@@ -184,16 +185,19 @@ def test_list_columns_needs_other_options(words: str, reason: bytes) -> None:
     assert done.status == 2 and reason in done.err and os.listdir() == ["table"], done
 
 
-# A run that takes a few seconds.
-COSTLY = ["20000" if word == "1000" else word for word in (*BY_CLASS, *NAMES)]
+# Runs that take a few seconds, without and with people's names.
+COSTLY_WITHOUT_NAMES = ["20000" if word == "1000" else word for word in BY_CLASS]
+COSTLY = [*COSTLY_WITHOUT_NAMES, *NAMES]
+LONG_AGO = 1e9  # seconds since 1970, so that the list is older than the part
 
 
 @pytest.fixture(name="interrupted")
 def fixture_interrupted() -> None:
     """Starts a run and kills it halfway."""
-    rows = [b'"Xu; %d";F;user%d;c%d\n' % (n, n, n % 3) for n in range(SLOW_COUNT)]
+    numbers = range(SLOW_COUNT)
+    rows = [b'"Xu; %d";F;user%d;c%d\n' % (number, number, number % 3) for number in numbers]
     save("table", b"last;first;login;class\n" + b"".join(rows))
-    os.utime("table", (1e9, 1e9))
+    os.utime("table", (LONG_AGO, LONG_AGO))
     with halted(PWHASH, *COSTLY) as process:
         process.kill()
 
@@ -213,6 +217,6 @@ def test_a_run_resumes_with_the_passwords_in_such_lists() -> None:
 @pytest.mark.parametrize("columns", [[], ["--list-columns", "last"]], ids=["none", "another"])
 def test_a_run_does_not_resume_with_other_columns(columns: list[str]) -> None:
     part = read("hashes.part")
-    done = pwhash(*COSTLY[:-2], *columns, "--resume")
+    done = pwhash(*COSTLY_WITHOUT_NAMES, *columns, "--resume")
     assert done.status == 2 and b"--list-columns" in done.err, done
     assert read("hashes.part") == part, done

@@ -51,9 +51,11 @@ def test_a_file_with_refused_or_doubtful_lines_is_not_hashed() -> None:
 def test_each_refused_or_doubtful_line_is_named_with_its_reason(
     number: int, name: str, reason: str
 ) -> None:
-    said = looked_at().err.decode().split("\n")
-    is_named = any(f"line {number}" in line and name in line and reason in line for line in said)
-    assert is_named, said
+    messages = looked_at().err.decode().split("\n")
+    is_named = any(
+        f"line {number}" in line and name in line and reason in line for line in messages
+    )
+    assert is_named, messages
 
 
 def test_20_lines_with_the_same_problem_are_named() -> None:
@@ -61,6 +63,48 @@ def test_20_lines_with_the_same_problem_are_named() -> None:
     done = pwhash(*TO_OUT)
     assert done.status == 1 and lines_named_in(done.err) == [*range(1, 21)], done
     assert b"21 with --skip-refused" in done.err, done
+
+
+REFUSED, DOUBTFUL = "--skip-refused", "--skip-doubtful"
+ACCEPT = "--accept-doubtful"
+
+
+@pytest.mark.parametrize(
+    ("lines", "words", "named"),
+    [
+        pytest.param(b"nameless\n", (), {f"(1 with {REFUSED})"}, id="refused"),
+        pytest.param(b"eve:\n", (), {f"(1 with {DOUBTFUL})", ACCEPT}, id="doubtful"),
+        pytest.param(b"nameless\n" * 30, (), {f"--look {REFUSED}."}, id="many refused"),
+        pytest.param(b"eve:\n" * 30, (), {f"--look {DOUBTFUL}.", ACCEPT}, id="many doubtful"),
+        pytest.param(
+            *(b"nameless\neve:\n", (), {f"(1 with {REFUSED}, 1 with {DOUBTFUL})", ACCEPT}),
+            id="both",
+        ),
+        pytest.param(
+            *(b"nameless\neve:\n", (ACCEPT,), {f"(1 with {REFUSED})"}), id="doubtful and accepted"
+        ),
+    ],
+)
+def test_only_options_that_apply_are_named(
+    lines: bytes, words: tuple[str, ...], named: set[str]
+) -> None:
+    save("lines", b"ann:x\n" + lines)
+    done = pwhash(*TO_OUT, *words)
+    said = done.err.decode()
+    assert done.status == 1 and all(each in said for each in named), done
+    for option in (REFUSED, DOUBTFUL, ACCEPT):
+        assert (option in said) == any(option in each for each in named), done
+    assert "(0 " not in said and " 0 " not in said, done
+
+
+def test_a_run_does_not_say_what_could_be_done_after_it_was_done() -> None:
+    save("lines", b"ann:x\nnameless\n")
+    for words in (*WORDS, "lines"), TO_OUT:
+        done = pwhash(*words, REFUSED)
+        assert done.status == 1 and b"lines left out: 1" in done.err, done
+        assert b"can be hashed" not in done.err, done
+    done = pwhash(*WORDS, "lines", "--look", REFUSED)
+    assert done.status == 1 and b"can be hashed" in done.err, done
 
 
 def test_no_password_is_shown() -> None:

@@ -1,4 +1,4 @@
-"""A name in a message controls no terminal, and isn't shown if it may be a password or a hash."""
+"""A name in a message can't control the terminal, and is left out if it may be a secret."""
 from __future__ import annotations
 
 import os
@@ -9,7 +9,7 @@ from support.pwhash_runs import ESCAPE, MD5, hashed, lines_named_in, pwhash, sav
 
 def name_commands() -> list[tuple[str, ...]]:
     """Returns commands whose messages contain a name."""
-    name = f"a{ESCAPE}\nroot:ok"
+    name = f"a{ESCAPE}\nroot:ok"  # if it were printed, its second line would look like an answer
     return [
         ("file", name),
         ("check", name),
@@ -59,12 +59,12 @@ SECRETS = [
     pytest.param(b"5f4dcc3b5aa765d61d8327deb882cf99", id="a hash in hexadecimal"),
     pytest.param(b"abJnggxhB/yWI", id="a hash of DES"),
 ]
-# These may be names. If columns are swapped, they are passwords.
+# These may be names, or passwords from swapped columns.
 LIKE_PASSWORDS = [
     pytest.param(b"topsecret!", id="a sign that names lack"),
     pytest.param(b"Winter24", id="a capital and a digit"),
 ]
-# Commands that find the line doubtful, wrong or unknown, with the line, where NAME is its name.
+# Commands, and the line that they find doubtful, wrong or unknown. NAME stands for its name.
 COMMANDS = [
     pytest.param(("file", "lines"), b"NAME:", id="a doubtful line"),
     pytest.param(("file", "--look", "lines"), b"NAME:", id="look"),
@@ -88,15 +88,23 @@ def test_what_may_be_a_password_is_not_shown_as_a_name(
     assert b"Secret" not in done.err, done
 
 
+@pytest.mark.parametrize(
+    ("words", "status"),
+    [
+        pytest.param((), 1, id="refused"),
+        pytest.param(("--accept-removals",), 0, id="removed"),
+    ],
+)
 @pytest.mark.parametrize("name", SECRETS)
-def test_names_of_an_installed_file_are_not_shown_if_they_may_be_passwords(name: bytes) -> None:
+def test_names_of_an_installed_file_are_not_shown_if_they_may_be_passwords(
+    name: bytes, words: tuple[str, ...], status: int
+) -> None:
     field = hashed(b"password")
     save("hashes", b"ann:" + field + b"\n")
     save("target", b"ann:" + field + b"\n" + name + b":" + field + b"\n")
-    for words, status in ((), 1), (("--accept-removals",), 0):
-        done = pwhash("install", *words, "hashes", "target")
-        assert done.status == status and b": 1, not shown" in done.err, done
-        assert name not in done.err and b"Secret" not in done.err, done
+    done = pwhash("install", *words, "hashes", "target")
+    assert done.status == status and b": 1, not shown" in done.err, done
+    assert name not in done.err and b"Secret" not in done.err, done
 
 
 def test_a_password_in_front_of_a_known_name_is_not_shown() -> None:

@@ -13,10 +13,10 @@ SECONDS_OF_DAY = 86_400
 
 def test_the_first_line_is_hashed_with_the_recommended_rounds() -> None:
     done = pwhash(stdin=b"correct horse\nmore\n")
-    made = done.out.decode().rstrip("\n")
-    assert done.status == 0 and made.startswith("$6$rounds=656000$"), done
+    stored = done.out.decode().rstrip("\n")
+    assert done.status == 0 and stored.startswith("$6$rounds=656000$"), done
     assert b"only the first line" in done.err, done
-    assert done.out == hashed(b"correct horse", made) + b"\n", done
+    assert done.out == hashed(b"correct horse", stored) + b"\n", done
 
 
 def test_a_password_without_a_line_feed_is_hashed() -> None:
@@ -25,8 +25,9 @@ def test_a_password_without_a_line_feed_is_hashed() -> None:
 
 def test_scrypt_uses_the_given_cost() -> None:
     done = pwhash("-m", "scrypt", "-R", "6", stdin=b"x")
-    made = done.out.decode().rstrip("\n")
-    assert made.startswith("$7$BU..../....") and done.out == hashed(b"x", made) + b"\n", done
+    stored = done.out.decode().rstrip("\n")
+    assert stored.startswith("$7$BU..../...."), done
+    assert done.out == hashed(b"x", stored) + b"\n", done
 
 
 # ---- Lines for other programs
@@ -38,8 +39,12 @@ users:
     lock_passwd: false
     hashed_passwd: HASH"""
 WITHOUT_NAME = [
-    pytest.param("preseed-root", "d-i passwd/root-password-crypted password HASH", id="Debian"),
-    pytest.param("preseed-user", "d-i passwd/user-password-crypted password HASH", id="its user"),
+    pytest.param(
+        "preseed-root", "d-i passwd/root-password-crypted password HASH", id="Debian's root"
+    ),
+    pytest.param(
+        "preseed-user", "d-i passwd/user-password-crypted password HASH", id="Debian's first user"
+    ),
     pytest.param("kickstart", "rootpw --iscrypted HASH", id="Red Hat"),
     pytest.param("ansible", 'password: "HASH"', id="Ansible"),
 ]
@@ -89,7 +94,7 @@ def test_no_target_accepts_a_name_with_a_colon(target: str) -> None:
 
 
 @pytest.mark.needs("python3-yaml")
-@pytest.mark.parametrize("name", "ann no yes null on y true _ A@b.c-d".split())
+@pytest.mark.parametrize("name", ["ann", "no", "yes", "null", "on", "y", "true", "_", "A@b.c-d"])
 def test_a_name_for_cloud_init_is_a_yaml_string(name: str) -> None:
     import yaml
 
@@ -100,6 +105,7 @@ def test_a_name_for_cloud_init_is_a_yaml_string(name: str) -> None:
 
 # ---- Passwords that a login would refuse
 
+# The longest passwords whose new hashes cost no more than a login may.
 LIMITS = [
     pytest.param((), 168, id="sha512crypt"),
     pytest.param(("-m", "sha256crypt"), 150, id="sha256crypt"),

@@ -103,13 +103,13 @@ def test_a_budget_of_0_checks_no_cost() -> None:
 @pytest.mark.parametrize(
     "words",
     [
-        pytest.param(("--accept-doubtful", "users", "ann"), id="before"),
+        pytest.param(("--accept-doubtful", "users", "ann"), id="before both"),
         pytest.param(("users", "--accept-doubtful", "ann"), id="between"),
-        pytest.param(("users", "ann", "--accept-doubtful"), id="behind"),
-        pytest.param(("-m", "md5crypt", "users", "--quiet", "--", "ann"), id="dashes"),
+        pytest.param(("users", "ann", "--accept-doubtful"), id="after both"),
+        pytest.param(("-m", "md5crypt", "users", "--quiet", "--", "ann"), id="before two dashes"),
     ],
 )
-def test_an_option_may_stand_between_file_and_name(words: tuple[str, ...]) -> None:
+def test_an_option_may_come_between_file_and_name(words: tuple[str, ...]) -> None:
     save("users", b"ann:" + MD5.encode() + b"\n")
     done = pwhash("set", "-S", "saltsalt", *words, stdin=b"a password of several words\n")
     assert (done.status, done.out) == (0, b""), done

@@ -53,7 +53,8 @@ def test_an_out_that_appears_during_a_run_stays() -> None:
 
 
 def test_an_out_that_appears_during_a_check_stays() -> None:
-    fields = [b"user%d:%b:1\n" % (n, hashed(b"password%d" % n)) for n in range(SLOW_COUNT)]
+    numbers = range(SLOW_COUNT)
+    fields = [b"user%d:%b:1\n" % (number, hashed(b"password%d" % number)) for number in numbers]
     save("shadow", b"".join(fields))
     save("list", users(SLOW_COUNT))
     words = ("check", "--shadow", "shadow", "--rehash", *SLOW, "list", "-o", "hashes")
@@ -64,20 +65,31 @@ def test_an_out_that_appears_during_a_check_stays() -> None:
     assert read("hashes.part").count(b"\n") == SLOW_COUNT and b"hashes.part" in done.err, done
 
 
+NOT_MOUNTED = 77  # the script's status if it can't mount the image
+
+
 @pytest.mark.needs("mkfs.vfat")
 def test_out_on_a_file_system_without_links_replaces_nothing() -> None:
     save("passwords", users(200))
-    script = """
-        mkdir fat; truncate -s 4M image; mkfs.vfat image > made
-        mount -o loop,umask=077,fmask=177 image fat || exit 77
+    script = f"""
+        mkdir fat
+        truncate -s 4M image
+        mkfs.vfat image > log
+        mount -o loop,umask=077,fmask=177 image fat || exit {NOT_MOUNTED}
         trap 'umount fat' EXIT
-        "$@"; wc -l < fat/hashes; ls fat
+        "$@"
+        wc -l < fat/hashes
+        ls fat
         rm fat/hashes
-        "$@" & until [ -s fat/hashes.part ]; do sleep 0.01; done
-        echo other > fat/hashes; wait $! || echo status $?; cat fat/hashes; ls fat
+        "$@" &
+        until [ -s fat/hashes.part ]; do sleep 0.01; done
+        echo other > fat/hashes
+        wait $! || echo status $?
+        cat fat/hashes
+        ls fat
     """
     done = in_namespace(script, "file", *SLOW, "passwords", "-o", "fat/hashes")
-    if done.status == 77:
+    if done.status == NOT_MOUNTED:
         not_applicable("no loop device can be made")
     left = b"hashes\nhashes.part\nhashes.part.options\n"
     assert done.out == b"200\nhashes\nstatus 3\nother\n" + left, done

@@ -24,8 +24,9 @@ def test_a_reader_that_stops_ends_the_run_quietly(words: tuple[str, ...], lines:
     with open("lines", "rb") as source, started(*words, stdin=source) as process:
         assert process.stdout and process.stderr
         process.stdout.close()
-        said = process.stderr.read()
-    assert (process.returncode, said) == (-signal.SIGPIPE, b""), (words, process.returncode, said)
+        errors = process.stderr.read()
+    ending = (process.returncode, errors)
+    assert ending == (-signal.SIGPIPE, b""), (words, ending)
 
 
 @pytest.mark.parametrize(
@@ -44,6 +45,7 @@ def test_a_reader_that_stops_ends_the_run_quietly(words: tuple[str, ...], lines:
 def test_no_out_is_lost_because_of_standard_error(redirected: str) -> None:
     """A run whose result is a file continues even if nobody reads its messages."""
     save("passwords", users(50) + b"no colon\n" + users(50).replace(b"user", b"other"))
+    # Until pwhash starts, the reader of its messages has ended.
     script = redirected.replace('"$@"', 'sleep 0.2; "$@"')
     done = shell(script, "file", *MD5CRYPT, "passwords", "-o", "hashes", "--skip-refused")
     assert read("status") == b"1\n" and read("hashes").count(b"\n") == 100, done
@@ -101,11 +103,12 @@ def test_a_run_on_a_full_disk_resumes_once_there_is_space() -> None:
     script = """
         mkdir full
         mount -t tmpfs -o size=16k none full
-        "$@" 2> said || echo status $?
+        "$@" 2> errors || echo status $?
         mount -o remount,size=1m full
-        sh -c "$(tail -n 1 said)"
+        sh -c "$(tail -n 1 errors)"
         cat full/out
     """
     done = in_namespace(script, "file", *MD5CRYPT, lines, "-o", "full/out")
-    hashes = [b"user%d:%b\n" % (n, hashed(b"password%d" % n)) for n in range(1000)]
+    numbers = range(1000)
+    hashes = [b"user%d:%b\n" % (number, hashed(b"password%d" % number)) for number in numbers]
     assert done.out == b"status 3\n" + b"".join(hashes), done

@@ -15,8 +15,7 @@ ESCAPE = b"\x1b[2J"
 # The limit stops a run after a megabyte of output, so that an endless one doesn't fill the disk.
 LIMIT = "ulimit -f 2048; exec "
 
-
-# The file that pwhash reads.
+# ---- The file that pwhash reads
 
 COMMANDS = [
     pytest.param(("audit",), id="audit"),
@@ -79,10 +78,11 @@ def test_output_can_be_appended_to_another_file() -> None:
     assert done.status == 0 and read("hashes") == b"eve:!\nann:" + MD5.encode() + b"\n", done
 
 
-# Names on a terminal.
+# ---- Names on a terminal
 
 NAME = b"an" + ESCAPE + b"\xffn"
-SHOWN = b"an\\x1b[2J\\xffn:"
+ESCAPED_NAME = b"an\\x1b[2J\\xffn"
+NAME_IN_JSON = ESCAPED_NAME.replace(b"\\", b"\\\\")
 
 
 def at_terminal(*words: str) -> tuple[int, bytes]:
@@ -109,8 +109,8 @@ def test_no_name_in_a_line_controls_the_terminal(words: tuple[str, ...]) -> None
     save("stored", NAME + b":" + MD5.encode() + b":password\n")
     status, screen = at_terminal(*words)
     assert b"\x1b[2J" not in screen, (status, screen)
-    name = SHOWN[:-1].replace(b"\\", b"\\\\") if "--json" in words else SHOWN[:-1]
-    assert name in screen, (status, screen)
+    expected = NAME_IN_JSON if "--json" in words else ESCAPED_NAME
+    assert expected in screen, (status, screen)
 
 
 def test_a_name_is_printed_unchanged_without_a_terminal() -> None:

@@ -63,7 +63,7 @@ def part_for_all() -> None:
 
 @pytest.mark.parametrize("words", [(), ("--resume",)], ids=["anew", "with --resume"])
 @pytest.mark.parametrize(
-    "put",
+    "create_part",
     [
         pytest.param(part_of_nobody, id="somebody else's"),
         pytest.param(part_for_all, id="one that others can write"),
@@ -74,19 +74,21 @@ def part_for_all() -> None:
     ],
 )
 def test_a_part_that_is_not_only_the_users_is_never_written(
-    put: Callable[[], None], words: tuple[str, ...]
+    create_part: Callable[[], None], words: tuple[str, ...]
 ) -> None:
     """Somebody else could add lines before chpasswd reads the file."""
     save("passwords", b"ann:password\n")
-    put()
+    create_part()
     before = os.lstat("hashes.part")
     done = run_in_the_open_folder(*words)
     assert done.status == 2 and b"hashes.part" in done.err, done
     assert not os.path.lexists("hashes"), done
     after = os.lstat("hashes.part")
     assert (after.st_ino, after.st_uid) == (before.st_ino, before.st_uid), done
-    assert not stat.S_ISREG(after.st_mode) or after.st_size == 0, done
-    assert not os.path.exists("elsewhere") or read("elsewhere") == b"", done
+    if stat.S_ISREG(after.st_mode):
+        assert after.st_size == 0, done
+    if os.path.exists("elsewhere"):
+        assert read("elsewhere") == b"", done
 
 
 def test_the_users_own_empty_part_is_not_used_without_resume() -> None:
@@ -106,9 +108,10 @@ def test_the_input_file_is_not_removed() -> None:
 
 
 def run_with_strangers_part() -> Ended:
-    """Puts another file in the part's place while pwhash renames that.
+    """Runs pwhash, and puts another file in the part's place before pwhash renames the part.
 
-    Without hard links pwhash looks at the part, and then renames it. strace delays the renaming.
+    Without hard links pwhash looks at the part, and then renames it. strace delays the renaming by
+    two seconds.
     """
     save("list", users(3))
     command = ["strace", "-f", "-qq", "-o", "log", "-e", "trace=linkat,renameat2"]
@@ -136,9 +139,9 @@ def test_another_users_file_is_not_mistaken_for_out() -> None:
 
 @pytest.mark.needs("strace")
 def test_a_part_that_another_run_made_out_is_left_alone() -> None:
-    """Another run may end before this one locks the part. strace stops this one before that."""
+    """Another run may end before this one locks the part. strace stops this run before that."""
     save("list", b"ann:password\n")
-    os.utime("list", (1e9, 1e9))
+    os.utime("list", (1e9, 1e9))  # the list must be older than the part
     save_part("hashes.part", b"ann:" + MD5.encode() + b"\n")
     trace = ["-P", "hashes.part", "-e", "trace=openat", "-e", "inject=openat:signal=STOP"]
     words = ("file", *MD5CRYPT, "list", "-o", "hashes", "--resume")
@@ -155,7 +158,7 @@ def link_options() -> None:
 
 
 @pytest.mark.parametrize(
-    "put",
+    "create_file",
     [
         pytest.param(lambda: save("hashes.part.options", b"name,password\n"), id="a list"),
         pytest.param(lambda: save_part("hashes.part.options", b"ann:pw1\n"), id="a private list"),
@@ -163,9 +166,9 @@ def link_options() -> None:
         pytest.param(lambda: os.mkdir("hashes.part.options"), id="a folder"),
     ],
 )
-def test_a_file_with_the_name_of_the_saved_options_stays(put: Callable[[], object]) -> None:
+def test_a_file_with_the_name_of_the_saved_options_stays(create_file: Callable[[], object]) -> None:
     save("list", b"name,password\nann,pw1\n")
-    put()
+    create_file()
     before = os.lstat("hashes.part.options")
     done = pwhash("file", *MD5CRYPT, "list", "-o", "hashes", "--csv")
     assert done.status == 2 and b"hashes.part.options" in done.err, done

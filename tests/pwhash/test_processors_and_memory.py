@@ -20,6 +20,7 @@ from support.pwhash_runs import (
 @pytest.mark.parametrize(
     ("script", "processors"),
     [
+        # Without a script, taskset sets the limit.
         pytest.param("", 1, id="one processor by taskset"),
         pytest.param("", 2, id="two processors by taskset"),
         pytest.param(
@@ -53,24 +54,27 @@ def test_no_more_threads_work_than_there_are_processors(
 
 
 MEBIBYTE = 1 << 20
-OWN = 30  # mebibytes that a run takes in addition to its hashes
-
+BESIDE_HASHES = 30  # mebibytes that a run takes in addition to its hashes
+MOST_OF_A_HASH = 100  # of its 128 mebibytes; a load that is lower shows that none was measured
 
 LITTLE_MEMORY = [
     pytest.param(available(600), 300, id="half of what is available"),
-    pytest.param(available(300), 150, id="room for one hash"),
-    pytest.param(f"{GROUP_VERSION_2} echo 629145600 > own/memory.max", 300, id="half of a group's"),
+    pytest.param(available(300), 150, id="enough for one hash"),
     pytest.param(
-        f"{GROUP_VERSION_2} echo 629145600 > memory.max; echo 314572800 > memory.current",
+        f"{GROUP_VERSION_2} echo {600 * MEBIBYTE} > own/memory.max", 300, id="half of a group's"
+    ),
+    pytest.param(
+        f"{GROUP_VERSION_2} echo {600 * MEBIBYTE} > memory.max\n"
+        f"echo {300 * MEBIBYTE} > memory.current",
         150,
         id="half of what a parent group has left",
     ),
     pytest.param(
-        f"{GROUP_VERSION_1} echo 629145600 > memory/own/memory.limit_in_bytes",
+        f"{GROUP_VERSION_1} echo {600 * MEBIBYTE} > memory/own/memory.limit_in_bytes",
         300,
         id="half of a version 1 group's",
     ),
-    pytest.param(available(20), 140, id="one hash even without room"),
+    pytest.param(available(20), 140, id="one hash, although there isn't enough"),
 ]
 
 
@@ -83,14 +87,16 @@ def test_scrypt_takes_at_most_half_of_the_free_memory(
     script = f"{script}\ncd {shlex.quote(str(folder))}"
     done, load = watched(script, "file", "-m", "scrypt", "-R", "8", "passwords")
     assert done.status == 0 and done.out.count(b"\n") == 6, done
-    assert 100 < load.memory // MEBIBYTE <= most + OWN, (load, done.command)
+    mebibytes = load.memory // MEBIBYTE
+    assert MOST_OF_A_HASH < mebibytes <= most + BESIDE_HASHES, (load, done.command)
 
 
 def test_scrypt_checks_take_at_most_half_of_the_free_memory(folder: pathlib.Path) -> None:
-    made = pwhash("file", "-m", "scrypt", "-R", "8", stdin=users(6))
-    lines = [line + b":password%d\n" % n for n, line in enumerate(made.out.splitlines())]
+    hashes = pwhash("file", "-m", "scrypt", "-R", "8", stdin=users(6)).out.splitlines()
+    lines = [line + b":password%d\n" % number for number, line in enumerate(hashes)]
     save("stored", b"".join(lines))
     script = f"{available(600)}\ncd {shlex.quote(str(folder))}"
     done, load = watched(script, "check", "--budget", "600M", "stored")
     assert done.status == 0 and done.out.count(b":ok\n") == 6, done
-    assert 100 < load.memory // MEBIBYTE <= 300 + OWN, (load, done.command)
+    mebibytes = load.memory // MEBIBYTE
+    assert MOST_OF_A_HASH < mebibytes <= 300 + BESIDE_HASHES, (load, done.command)

@@ -52,21 +52,24 @@ def renewed_while(content: bytes, *command: str, part: str = "hashes.part") -> E
 
 
 @pytest.mark.parametrize(
-    ("content", "names"),
+    ("content", "numbers"),
     [
         pytest.param(shadow({0: OTHER, LAST: OTHER}), [0, LAST], id="new passwords"),
         pytest.param(shadow({0: b"!" + field_of(0)}), [0], id="a lock"),
         pytest.param(shadow({}, removed=7), [7], id="a removed account"),
     ],
 )
-def test_a_field_that_changes_meanwhile_gets_no_new_hash(content: bytes, names: list[int]) -> None:
+def test_a_field_that_changes_meanwhile_gets_no_new_hash(
+    content: bytes, numbers: list[int]
+) -> None:
     done = renewed_while(content, *TO_OUT)
     assert done.status == 1 and b"shadow was changed during the run" in done.err, done
-    assert b", ".join(b"user%d" % number for number in names) + b"." in done.err, done
+    names = b", ".join(b"user%d" % number for number in numbers)
+    assert names + b"." in done.err, done
     expected = [
         b"user%d:%b\n" % (number, hashed(b"password%d" % number, SETTING))
         for number in range(COUNT)
-        if number not in names
+        if number not in numbers
     ]
     assert read("hashes") == b"".join(expected), done
     assert not os.path.exists("hashes.part"), done

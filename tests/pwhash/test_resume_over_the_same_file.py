@@ -14,6 +14,7 @@ import pytest
 from support.pwhash_runs import (
     Ended,
     SLOW,
+    command_to_go_on,
     ended,
     hashed,
     in_namespace,
@@ -31,7 +32,7 @@ from support.pwhash_runs import (
 COUNT = 120
 SETTING = "$6$rounds=20000$saltsalt"
 WORDS = ("file", *SLOW, "passwords", "-o", "hashes")
-OLD = (1e9, 1e9)
+OLD = (1e9, 1e9)  # a time of access and one of change, in seconds since 1970
 OLDER = (9e8, 9e8)
 
 
@@ -80,16 +81,11 @@ def lines_in(name: str) -> int:
     return read(name).count(b"\n")
 
 
-def printed_command(done: Ended) -> str:
-    """Returns the command that the run prints for resuming it."""
-    return done.err.decode().split("To go on:\n")[1].strip()
-
-
 def by_shell(command: str) -> Ended:
     return ended(started_program("/bin/sh", "-c", command))
 
 
-# Another file.
+# ---- Another file
 
 
 def other_passwords() -> bytes:
@@ -134,13 +130,13 @@ CHANGES = [
 @pytest.mark.parametrize("change", CHANGES)
 @pytest.mark.parametrize("source", ["/dev/null", "passwords"], ids=["named", "standard input"])
 def test_a_part_of_another_file_is_not_resumed(change: Callable[[], object], source: str) -> None:
-    words = [word for word in WORDS if word != source]
+    words = [word for word in WORDS if word != source]  # no FILE if standard input is it
     interrupted(*words, source=source)
     part = read("hashes.part")
     change()
     done = shell(f'exec "$@" < {source}', *words, "--resume")
     assert done.status == 2 and not os.path.exists("hashes"), done
-    assert b"another file" in done.err and b"emove hashes.part" in done.err, done
+    assert b"another file" in done.err and b"remove hashes.part" in done.err.lower(), done
     assert b"--resume" not in done.err and read("hashes.part") == part, done
 
 
@@ -156,7 +152,7 @@ def test_following_the_advice_after_a_refusal_makes_new_hashes() -> None:
 
 def test_a_run_resumes_with_the_same_file_on_standard_input() -> None:
     first = interrupted("file", *SLOW, "-o", "hashes", source="passwords")
-    second = by_shell(printed_command(first))
+    second = by_shell(command_to_go_on(first))
     assert second.status == 0 and lines_in("hashes") == COUNT, second
     assert sorted(os.listdir()) == ["hashes", "passwords"], second
 
@@ -173,27 +169,36 @@ def test_a_part_can_be_resumed_more_than_once() -> None:
 
 def test_a_part_from_another_program_is_bound_to_the_file_once_it_is_resumed() -> None:
     """GNU parallel makes such a part, without saved options beside it."""
-    made = b"".join(b"user%d:%b\n" % (n, hashed(b"password%d" % n, SETTING)) for n in range(3))
-    interrupted(*WORDS, "--resume", begun=made)
+    part = b"".join(
+        b"user%d:%b\n" % (number, hashed(b"password%d" % number, SETTING)) for number in range(3)
+    )
+    interrupted(*WORDS, "--resume", begun=part)
     copy_over()
     done = pwhash(*WORDS, "--resume")
     assert done.status == 2 and b"another file" in done.err, done
 
 
-# The options that are saved beside the part.
+# ---- The options that are saved beside the part
 
-KEPT = "hashes.part.options"
+SAVED_OPTIONS = "hashes.part.options"
 
 
-def cut_by(count: int) -> None:
-    with open(KEPT, "r+b") as file:
-        file.truncate(max(0, os.path.getsize(KEPT) - count))
+def empty_options() -> None:
+    os.truncate(SAVED_OPTIONS, 0)
+
+
+def halve_options() -> None:
+    os.truncate(SAVED_OPTIONS, os.path.getsize(SAVED_OPTIONS) // 2)
+
+
+def cut_last_byte_of_options() -> None:
+    os.truncate(SAVED_OPTIONS, os.path.getsize(SAVED_OPTIONS) - 1)
 
 
 CUTS = [
-    pytest.param(lambda: cut_by(1 << 20), id="empty"),
-    pytest.param(lambda: cut_by(os.path.getsize(KEPT) // 2), id="half of it"),
-    pytest.param(lambda: cut_by(1), id="all but the last byte"),
+    pytest.param(empty_options, id="empty"),
+    pytest.param(halve_options, id="half of it"),
+    pytest.param(cut_last_byte_of_options, id="all but the last byte"),
 ]
 
 
@@ -206,7 +211,7 @@ def test_a_part_with_truncated_options_is_not_resumed(
     cut()
     done = pwhash(*WORDS, *words, "--resume")
     assert done.status == 2 and not os.path.exists("hashes"), done
-    assert KEPT.encode() in done.err and b"emove" in done.err, done
+    assert SAVED_OPTIONS.encode() in done.err and b"remove" in done.err.lower(), done
 
 
 @pytest.mark.parametrize("cut", CUTS)
@@ -221,16 +226,17 @@ def test_an_empty_part_with_truncated_options_loses_nothing(cut: Callable[[], No
 
 
 @pytest.mark.parametrize("words", [(), ("--windows",)], ids=["alone", "with --windows"])
-@pytest.mark.parametrize("blocks", [0, 1], ids=["nothing fits", "a block fits"])
-def test_the_printed_command_resumes_after_a_full_disk(words: tuple[str, ...], blocks: int) -> None:
+@pytest.mark.parametrize("free", [0, 4], ids=["nothing fits", "a block fits"])
+def test_the_printed_command_resumes_after_a_full_disk(words: tuple[str, ...], free: int) -> None:
+    """The disk of 64 KiB has as many of these free as the test says."""
     script = f"""
         mkdir full
         mount -t tmpfs -o size=64k none full
-        head -c {65536 - 4096 * blocks} /dev/zero > full/filler
-        "$@" 2> said || echo status $?
-        cat said >&2
+        head -c {64 - free}k /dev/zero > full/filler
+        "$@" 2> errors || echo status $?
+        cat errors >&2
         rm full/filler
-        sh -c "$(sed -n 's/^  //p' said)" || echo status $?
+        sh -c "$(sed -n 's/^  //p' errors)" || echo status $?
         wc -l < full/hashes
         ls full
     """
@@ -240,7 +246,7 @@ def test_the_printed_command_resumes_after_a_full_disk(words: tuple[str, ...], b
     assert done.out == b"status 3\n200\nhashes\n" and b"To go on" in done.err, done
 
 
-# The command that a run prints for resuming it.
+# ---- The command that a run prints for resuming it
 
 
 @pytest.mark.parametrize(
@@ -256,11 +262,11 @@ def test_the_printed_command_resumes_after_a_full_disk(words: tuple[str, ...], b
 def test_the_printed_command_works_with_any_name(name: str, words: tuple[str, ...]) -> None:
     os.rename("passwords", name)
     first = interrupted("file", *SLOW, *words)
-    second = by_shell(printed_command(first))
+    second = by_shell(command_to_go_on(first))
     assert second.status == 0 and lines_in("hashes") == COUNT, second
 
 
 def test_the_printed_command_works_if_out_begins_with_a_dash() -> None:
     first = interrupted("file", *SLOW, "--out=-h", "--", "passwords", part="-h.part")
-    second = by_shell(printed_command(first))
+    second = by_shell(command_to_go_on(first))
     assert second.status == 0 and lines_in("-h") == COUNT, second

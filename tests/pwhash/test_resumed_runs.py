@@ -4,6 +4,7 @@ from __future__ import annotations
 import os
 import shlex
 import signal
+from collections.abc import Callable
 
 import pytest
 from support.pwhash_runs import (
@@ -29,7 +30,7 @@ from support.pwhash_runs import (
 
 SHA256 = "$5$rounds=1000$"
 
-
+# What may be stored for bob in the second of three lines.
 OTHER_MIDDLES = [
     pytest.param(hashed(b"b", "$1$saltsalt"), id="another method"),
     pytest.param(hashed(b"b", "$5$rounds=1001$saltsaltsaltsalt"), id="other rounds"),
@@ -47,25 +48,24 @@ def test_resume_refuses_a_forged_line_in_the_middle(middle: bytes) -> None:
     save("passwords", b"ann:a\nbob:b\neve:c\nzoe:d\n")
     words = ("file", "-m", "sha256crypt", "-R", "1000", "passwords", "-o", "hashes")
     setting = SHA256 + "saltsaltsaltsalt"
-    kept = [b"ann:" + hashed(b"a", setting), b"bob:" + middle, b"eve:" + hashed(b"c", setting)]
-    save_part("hashes.part", b"\n".join(kept) + b"\n")
+    ann = b"ann:" + hashed(b"a", setting) + b"\n"
+    bob = b"bob:" + hashed(b"b", setting) + b"\n"
+    eve = b"eve:" + hashed(b"c", setting) + b"\n"
+    save_part("hashes.part", ann + b"bob:" + middle + b"\n" + eve)
     done = pwhash(*words, "--resume")
     assert done.status == 2 and b"hashes.part, line 2" in done.err, done
     assert not os.path.exists("hashes"), done
-    kept[1] = b"bob:" + hashed(b"b", setting)
-    save_part("hashes.part", b"\n".join(kept) + b"\n")
+    save_part("hashes.part", ann + bob + eve)
     done = pwhash(*words, "--resume")
-    assert done.status == 0 and read("hashes").startswith(b"\n".join(kept) + b"\nzoe:$5$"), done
+    assert done.status == 0 and read("hashes").startswith(ann + bob + eve + b"zoe:$5$"), done
 
 
 def test_resume_refuses_a_salt_in_the_middle_that_is_not_the_given_one() -> None:
     save("passwords", b"ann:a\nbob:b\neve:c\nzoe:d\n")
-    salts = ["$1$xxxxxxxx", "$1$yyyyyyyy", "$1$xxxxxxxx"]
-    kept = [
-        b"%b:%b" % (name, hashed(password, salt))
-        for name, password, salt in zip((b"ann", b"bob", b"eve"), (b"a", b"b", b"c"), salts)
-    ]
-    save_part("hashes.part", b"\n".join(kept) + b"\n")
+    ann = b"ann:" + hashed(b"a", "$1$xxxxxxxx") + b"\n"
+    bob = b"bob:" + hashed(b"b", "$1$yyyyyyyy") + b"\n"
+    eve = b"eve:" + hashed(b"c", "$1$xxxxxxxx") + b"\n"
+    save_part("hashes.part", ann + bob + eve)
     done = pwhash("file", *MD5CRYPT, "passwords", "-o", "hashes", "--resume")
     assert done.status == 2 and b"hashes.part, line 2" in done.err, done
 
@@ -79,23 +79,38 @@ OTHER_LINES = [
 ]
 
 
+def users_with_carriage_returns() -> bytes:
+    """Returns a list in which every second line ends in a carriage return."""
+    ends = (b"", b"\r")
+    return b"".join(
+        b"user%d:password%d%b\n" % (number, number, ends[number % 2])
+        for number in range(SLOW_COUNT)
+    )
+
+
+def table_with_old_passwords() -> bytes:
+    """Returns a table with a column `old`."""
+    rows = [
+        b"user%d,password%d,other%d\n" % (number, number, number if number % 2 == 1 else 0)
+        for number in range(SLOW_COUNT)
+    ]
+    return b"name,password,old\n" + b"".join(rows)
+
+
 @pytest.mark.parametrize(("first", "second"), OTHER_LINES)
 def test_options_that_change_lines_do_not_resume_a_part(
     first: tuple[str, ...], second: tuple[str, ...]
 ) -> None:
     """The first and last lines, which --resume hashes again, don't tell the options apart."""
-    text = b"".join(b"user%d:password%d%b\n" % (n, n, b"\r" * (n % 2)) for n in range(SLOW_COUNT))
-    if "--csv" in first:
-        rows = (b"user%d,password%d,other%d\n" % (n, n, n * (n % 2)) for n in range(SLOW_COUNT))
-        text = b"name,password,old\n" + b"".join(rows)
-    save("list", text)
-    os.utime("list", (1e9, 1e9))
+    is_table = "--csv" in first
+    save("list", table_with_old_passwords() if is_table else users_with_carriage_returns())
+    os.utime("list", (1e9, 1e9))  # the list must be older than the part
     words = ("file", *SLOW, "list", "-o", "hashes")
     with halted(PWHASH, *words, *first) as process:
         process.send_signal(signal.SIGTERM)
         go_on(process)
     part = read("hashes.part").splitlines(keepends=True)
-    if len(part) % 2 == 0:
+    if len(part) % 2 == 0:  # the last line, too, must be one without a carriage return
         part.pop()
     save("hashes.part", b"".join(part))
     done = pwhash(*words, *second, "--resume")
@@ -108,13 +123,14 @@ def test_options_that_change_lines_do_not_resume_a_part(
 def test_options_saved_by_another_program_are_not_used() -> None:
     save("list", b"ann,pw1\nbob,pw2\n")
     save_part("hashes.part", ANN)
-    os.utime("list", (1e9, 1e9))
+    os.utime("list", (1e9, 1e9))  # the list must be older than the part
     words = ("file", *MD5CRYPT, "list", "-o", "hashes", "--csv", "--columns", "1,2", "--resume")
-    for is_pipe in False, True:
-        if is_pipe:
-            os.mkfifo("hashes.part.options")
-        else:
-            save("hashes.part.options", b"--csv --columns=1,2")
+    creators: list[Callable[[], object]] = [
+        lambda: save("hashes.part.options", b"--csv --columns=1,2"),
+        lambda: os.mkfifo("hashes.part.options"),
+    ]
+    for create in creators:
+        create()
         os.chmod("hashes.part.options", 0o644)
         done = pwhash(*words)
         assert done.status == 2 and b"hashes.part.options" in done.err, done
@@ -146,7 +162,7 @@ WHOLE = b"".join(
     b"%b:%b\n" % (name, hashed(password))
     for name, password in ((b"ann", b"x"), (b"bob", b"y"), (b"carl", b"z"))
 )
-FIRST, SECOND, THIRD = WHOLE.splitlines(keepends=True)
+FIRST, SECOND, _ = WHOLE.splitlines(keepends=True)
 
 
 @pytest.mark.parametrize(

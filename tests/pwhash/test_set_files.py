@@ -32,7 +32,7 @@ OWNER, GROUP, MODE = 65534, 4242, 0o640
 SHADOW = b"ann:" + hashed(b"old") + b":19000:0:99999:7:::\n"
 PASSWD = b"ann:x:1000:1000:Ann,,,:/home/ann:/bin/sh\n"
 # The command that bin/pwhash runs. A shell in between would drop the rights of another user.
-STARTED = ("/usr/bin/python3", "-I", "-S", str(PACKAGE / "pwhash/start.py"), str(LIBRARY), "pwhash")
+START = ("/usr/bin/python3", "-I", "-S", str(PACKAGE / "pwhash/start.py"), str(LIBRARY), "pwhash")
 OTHER_USER = ("setpriv", "--reuid=65534", "--regid=65534", "--clear-groups")
 
 
@@ -52,11 +52,11 @@ def test_a_folder_that_is_exchanged_during_the_run_is_noticed() -> None:
 
 
 def set_ann(*words: str) -> Ended:
-    """Sets Ann's password, which turns BEFORE into AFTER."""
+    """Sets Ann's password, which turns BEFORE into AFTER. Other words may replace SET."""
     return pwhash(*(words or SET), stdin=b"password\n")
 
 
-def beside() -> list[str]:
+def file_names() -> list[str]:
     """Returns the names of the files in the current folder."""
     return sorted(path.name for path in pathlib.Path().iterdir())
 
@@ -109,7 +109,7 @@ def test_the_lock_belongs_to_the_owner_of_the_file_and_nothing_else_is_left() ->
     os.chown("passwords", OWNER, GROUP)
     done = set_ann()
     status = os.stat(LOCK)
-    assert (done.status, beside()) == (0, ["passwords", LOCK]), done
+    assert (done.status, file_names()) == (0, ["passwords", LOCK]), done
     found = (stat.S_IMODE(status.st_mode), status.st_uid, status.st_gid)
     assert found == (0o600, OWNER, GROUP)
 
@@ -173,7 +173,7 @@ def test_a_folder_is_refused() -> None:
 
 def test_an_endless_file_is_refused() -> None:
     save("passwords", BEFORE)
-    os.truncate("passwords", 1 << 40)
+    os.truncate("passwords", 1 << 40)  # without end for a reader, but without blocks on the disk
     assert_refused(set_ann(), b"1 GiB")
 
 
@@ -236,10 +236,10 @@ def test_a_user_who_may_not_write_the_file_gets_a_message(
 
 
 @pytest.mark.needs("root")
-@pytest.mark.parametrize("kind", ["--ruid=65534", "--rgid=65534"], ids=["user", "group"])
-def test_a_process_with_the_rights_of_another_user_is_refused(kind: str) -> None:
+@pytest.mark.parametrize("option", ["--ruid=65534", "--rgid=65534"], ids=["user", "group"])
+def test_a_process_with_the_rights_of_another_user_is_refused(option: str) -> None:
     save("passwords", BEFORE)
-    done = ended(started_program("setpriv", kind, "--keep-groups", *STARTED, *SET), b"password\n")
+    done = ended(started_program("setpriv", option, "--keep-groups", *START, *SET), b"password\n")
     assert_refused(done, b"set-user-ID")
     assert read("passwords") == BEFORE
 
@@ -263,7 +263,12 @@ OWN_ETC = """
 )
 def test_a_file_of_the_system_is_refused(path: str, monkeypatch: pytest.MonkeyPatch) -> None:
     monkeypatch.setenv("LINE", "ann:!:1:2:3:4:5:6:\n")
-    script = f'{OWN_ETC}\nbefore=$(cat /etc/*)\n"$@" && exit 9; [ "$(cat /etc/*)" = "$before" ]'
+    script = f"""
+        {OWN_ETC}
+        before=$(cat /etc/*)
+        if "$@"; then exit 9; fi
+        [ "$(cat /etc/*)" = "$before" ]
+    """
     done = in_namespace(script, "set", *MD5CRYPT, path, "ann", stdin=b"password\n")
     assert done.status == 0 and b"chpasswd(8)" in done.err and b"passwd(1)" in done.err, done
 
@@ -287,16 +292,24 @@ def test_a_file_of_the_system_is_refused_under_another_name() -> None:
 @pytest.mark.parametrize(
     "path",
     [
-        *("etc/passwd", "root/etc/shadow", "etc/gshadow-", "etc/group", "var/backups/shadow.bak"),
-        *("etc/subuid", "etc/subgid", "root/etc/subuid-", "etc/subgid-"),
+        "etc/passwd",
+        "root/etc/shadow",
+        "etc/gshadow-",
+        "etc/group",
+        "var/backups/shadow.bak",
+        "etc/subuid",
+        "etc/subgid",
+        "root/etc/subuid-",
+        "etc/subgid-",
     ],
 )
-def test_such_a_file_of_another_root_is_refused(path: str) -> None:
-    os.makedirs(os.path.dirname(path))
+def test_a_file_of_the_system_below_another_root_is_refused(path: str) -> None:
+    folder, name = os.path.split(path)
+    os.makedirs(folder)
     save(path, b"ann:x\n")
-    for words in (path,), (f"{os.path.dirname(path)}/../{os.path.basename(os.path.dirname(path))}/"
-                           f"{os.path.basename(path)}",):  # fmt: skip
-        done = set_ann("set", *MD5CRYPT, *words, "ann")
+    detour = f"{folder}/../{os.path.basename(folder)}/{name}"
+    for same_file in path, detour:
+        done = set_ann("set", *MD5CRYPT, same_file, "ann")
         assert done.status == 2 and b"chpasswd(8)" in done.err, done
     assert read(path) == b"ann:x\n"
 

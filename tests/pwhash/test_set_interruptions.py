@@ -28,18 +28,18 @@ from support.pwhash_runs import (
 SET = ("set", *MD5CRYPT, "passwords", "ann")
 BEFORE = b"bob:!y\nann:x:1\nlast:z\n"
 AFTER = BEFORE.replace(b"ann:x", b"ann:" + hashed(b"password"))
-LEFT = ["passwords", "passwords.mkpasswd.lock"]
+FILES_LEFT = ["passwords", "passwords.mkpasswd.lock"]  # the lock stays for later runs
 # The command that bin/pwhash runs, so that strace counts only the calls from here on.
-STARTED = ("/usr/bin/python3", "-I", "-S", str(PACKAGE / "pwhash/start.py"), str(LIBRARY), "pwhash")
+START = ("/usr/bin/python3", "-I", "-S", str(PACKAGE / "pwhash/start.py"), str(LIBRARY), "pwhash")
 
 
 def traced(inject: str) -> Ended:
     """Sets Ann's password while strace injects a failure or a signal at a system call."""
-    command = ["strace", "-qq", "-o", "/dev/null", "-e", f"inject={inject}", *STARTED, *SET]
+    command = ["strace", "-qq", "-o", "/dev/null", "-e", f"inject={inject}", *START, *SET]
     return ended(started_program(*command), b"password\n")
 
 
-def beside() -> list[str]:
+def file_names() -> list[str]:
     """Returns the names of the files in the current folder."""
     return sorted(path.name for path in pathlib.Path().iterdir())
 
@@ -49,28 +49,31 @@ def beside() -> list[str]:
 
 @pytest.mark.needs("strace")
 @pytest.mark.parametrize(
-    ("call", "expected"),
+    ("call", "number", "expected"),
     [
-        pytest.param("flock:when=1", BEFORE, id="before the lock"),
-        pytest.param("fchown:when=2", BEFORE, id="before the new file has its owner"),
-        pytest.param("fsync:when=1", BEFORE, id="before the new file is on the disk"),
-        pytest.param("linkat:when=1", BEFORE, id="before the new file has a name"),
-        pytest.param("symlinkat:when=1", BEFORE, id="before the note"),
-        pytest.param("renameat2:when=1", BEFORE, id="before the exchange"),
-        pytest.param("unlinkat:when=2", AFTER, id="before the old file is removed"),
-        pytest.param("unlinkat:when=3", AFTER, id="before the note is removed"),
-        pytest.param("fsync:when=2", AFTER, id="before the folder is on the disk"),
+        pytest.param("flock", 1, BEFORE, id="before the lock"),
+        pytest.param("fchown", 2, BEFORE, id="before the new file has its owner"),
+        pytest.param("fsync", 1, BEFORE, id="before the new file is on the disk"),
+        pytest.param("linkat", 1, BEFORE, id="before the new file has a name"),
+        pytest.param("symlinkat", 1, BEFORE, id="before the note"),
+        pytest.param("renameat2", 1, BEFORE, id="before the exchange"),
+        pytest.param("unlinkat", 2, AFTER, id="before the old file is removed"),
+        pytest.param("unlinkat", 3, AFTER, id="before the note is removed"),
+        pytest.param("fsync", 2, AFTER, id="before the folder is on the disk"),
     ],
 )
-def test_a_killed_run_leaves_the_old_or_the_new_file(call: str, expected: bytes) -> None:
+def test_a_killed_run_leaves_the_old_or_the_new_file(
+    call: str, number: int, expected: bytes
+) -> None:
+    """A signal comes at the call with this number, counted from 1."""
     save("passwords", BEFORE)
-    killed = traced(f"{call.replace(':', ':signal=KILL:')}")
+    killed = traced(f"{call}:signal=KILL:when={number}")
     assert killed.status == -signal.SIGKILL, killed
     assert read("passwords") == expected, killed
-    done = pwhash("set", "--lock", "passwords", "last")
-    assert done.status == 2, done  # "z" isn't a hash
+    refused = pwhash("set", "--lock", "passwords", "last")  # its field z isn't a hash
+    assert refused.status == 2, refused
     done = pwhash(*SET, stdin=b"password\n")
-    assert (done.status, read("passwords"), beside()) == (0, AFTER, LEFT), done
+    assert (done.status, read("passwords"), file_names()) == (0, AFTER, FILES_LEFT), done
 
 
 @pytest.mark.needs("strace")
@@ -81,23 +84,27 @@ def test_a_signal_while_the_file_is_replaced_undoes_nothing(
 ) -> None:
     save("passwords", BEFORE)
     done = traced(f"{call}:signal={number.name}:when=1")
-    assert (done.status, read("passwords"), beside()) == (0, AFTER, LEFT), done
+    assert (done.status, read("passwords"), file_names()) == (0, AFTER, FILES_LEFT), done
     assert number.name.encode() in done.err, done
 
 
+KILLS = 60
+SECONDS_TO_KILL = (0.05, 0.4)  # the least and the most, from the start of a run
+
+
 def test_runs_killed_at_random_lose_nothing() -> None:
-    randoms = random.Random(1)
+    source = random.Random(1)
     save("passwords", BEFORE)
-    for _ in range(60):
+    for _ in range(KILLS):
         with started(*SET) as process:
             assert process.stdin
             process.stdin.write(b"password\n")
             process.stdin.close()
-            time.sleep(randoms.uniform(0.05, 0.4))
+            time.sleep(source.uniform(*SECONDS_TO_KILL))
             process.kill()
         assert read("passwords") in (BEFORE, AFTER)
     done = pwhash(*SET, stdin=b"password\n")
-    assert (done.status, read("passwords"), beside()) == (0, AFTER, LEFT), done
+    assert (done.status, read("passwords"), file_names()) == (0, AFTER, FILES_LEFT), done
 
 
 # ---- Failures
@@ -113,7 +120,7 @@ def test_runs_killed_at_random_lose_nothing() -> None:
         pytest.param("fsync", "EIO", id="a failing disk"),
         pytest.param("fsync", "ENOSPC", id="a full disk"),
         pytest.param("linkat", "EACCES", id="no permission to create a name"),
-        pytest.param("symlinkat", "ENOSPC", id="no room for the note"),
+        pytest.param("symlinkat", "ENOSPC", id="no space for the note"),
         pytest.param("renameat2", "EINVAL", id="no exchange"),
         pytest.param("renameat2", "EIO", id="an exchange that fails"),
     ],
@@ -122,7 +129,7 @@ def test_a_system_call_that_fails_leaves_the_old_file(call: str, error: str) -> 
     save("passwords", BEFORE)
     done = traced(f"{call}:error={error}")
     assert (done.status, done.out, read("passwords")) == (3, b"", BEFORE), done
-    assert done.err.startswith(b"pwhash: ") and set(beside()) <= set(LEFT), done
+    assert done.err.startswith(b"pwhash: ") and set(file_names()) <= set(FILES_LEFT), done
 
 
 @pytest.mark.needs("strace")
@@ -138,7 +145,7 @@ def test_an_error_after_the_exchange_is_not_a_failure(inject: str) -> None:
     done = traced(inject)
     assert (done.status, read("passwords")) == (0, AFTER), done
     done = pwhash("set", "--delete", "passwords", "bob")
-    assert (done.status, beside()) == (0, LEFT), done
+    assert (done.status, file_names()) == (0, FILES_LEFT), done
 
 
 def test_a_full_disk_leaves_the_old_file() -> None:
@@ -150,7 +157,7 @@ def test_a_full_disk_leaves_the_old_file() -> None:
         : > passwords.mkpasswd.lock
         head -c 60000 /dev/zero > zeros 2>> ../log || :
         cp -p passwords ../before
-        "$@" || { s=$?; cmp passwords ../before && ls && exit $s; }
+        "$@" || { status=$?; cmp passwords ../before && ls && exit $status; }
     """
     done = in_namespace(script, *SET, stdin=b"password\n")
     assert done.status == 3 and b"No space left" in done.err, done
@@ -160,7 +167,7 @@ def test_a_full_disk_leaves_the_old_file() -> None:
 def test_a_file_that_is_mounted_by_itself_stays() -> None:
     save("passwords", BEFORE)
     save("outside", BEFORE)
-    script = 'mount --bind outside passwords; "$@" || { s=$?; ls; exit $s; }'
+    script = 'mount --bind outside passwords; "$@" || { status=$?; ls; exit $status; }'
     done = in_namespace(script, *SET, stdin=b"password\n")
     assert done.status == 3 and b"mounted by itself" in done.err, done
     assert done.out.split() == [b"outside", b"passwords", b"passwords.mkpasswd.lock"], done
@@ -169,11 +176,11 @@ def test_a_file_that_is_mounted_by_itself_stays() -> None:
 
 @pytest.mark.needs("strace")
 def test_an_immutable_file_is_named_before_the_password_is_read() -> None:
-    """The kernel answers EPERM if anybody wants to write such a file."""
+    """The kernel fails with EPERM for anybody who wants to write such a file."""
     save("passwords", BEFORE)
     done = traced("?faccessat2,?faccessat:error=EPERM")
     assert done.status == 2 and b"immutable" in done.err, done
-    assert (read("passwords"), beside()) == (BEFORE, ["passwords"]), done
+    assert (read("passwords"), file_names()) == (BEFORE, ["passwords"]), done
 
 
 def test_a_limit_on_file_size_leaves_the_old_file() -> None:
@@ -222,8 +229,9 @@ def test_simultaneous_runs_lose_no_line() -> None:
     ends = [run.result() for run in runs]
     assert all(done.status == 0 for done in ends), "\n".join(map(str, ends))
     content = read("passwords")
-    added = re.findall(rb"(?m)^(user\d+):", content)
-    assert content.startswith(BEFORE) and sorted(added) == sorted(n.encode() for n in names)
+    added = re.findall(rb"^(user\d+):", content, re.MULTILINE)
+    assert content.startswith(BEFORE), content
+    assert sorted(added) == sorted(name.encode() for name in names)
 
 
 def test_simultaneous_runs_add_a_name_once() -> None:

@@ -25,8 +25,11 @@ def in_file(line: bytes) -> bytes:
     ("before", "after"),
     [
         pytest.param(b"ann:OLD", b"ann:NEW", id="a hash"),
-        pytest.param(b"ann:OLD:1000:1000::/home/ann::x=y:z", b"ann:NEW:1000:1000::/home/ann::x=y:z",
-                     id="fields after it"),
+        pytest.param(
+            b"ann:OLD:1000:1000::/home/ann::x=y:z",
+            b"ann:NEW:1000:1000::/home/ann::x=y:z",
+            id="fields after it",
+        ),
         pytest.param(b"ann:", b"ann:NEW", id="an empty field"),
         pytest.param(b"ann::5", b"ann:NEW:5", id="an empty field before others"),
         pytest.param(b"ann:a password", b"ann:NEW", id="a plain password"),
@@ -34,7 +37,7 @@ def in_file(line: bytes) -> bytes:
         pytest.param(b"ann:{crypt}OLD", b"ann:{crypt}NEW", id="a lower-case prefix"),
         pytest.param(b"ann:{MD5-CRYPT}OLD", b"ann:{MD5-CRYPT}NEW", id="the method's prefix"),
     ],
-)  # fmt: skip
+)
 def test_a_new_password_changes_only_the_hash(before: bytes, after: bytes) -> None:
     save("passwords", in_file(before.replace(b"OLD", OLD)))
     done = pwhash("set", *MD5CRYPT, "passwords", "ann", stdin=b"password\n")
@@ -80,7 +83,12 @@ def test_a_prefix_that_does_not_fit_the_new_hash_is_refused(
 @pytest.mark.parametrize("prefix", [b"{SHA}", b"{SSHA}", b"{PLAIN}", b"{SHA256-CRYPT}"])
 @pytest.mark.parametrize(
     ("service", "new_prefix"),
-    [("apache", b""), ("nginx", b""), ("dovecot", b"{CRYPT}"), ("ldap", b"{CRYPT}")],
+    [
+        pytest.param("apache", b"", id="Apache"),
+        pytest.param("nginx", b"", id="nginx"),
+        pytest.param("dovecot", b"{CRYPT}", id="Dovecot"),
+        pytest.param("ldap", b"{CRYPT}", id="LDAP"),
+    ],
 )
 def test_the_option_for_replaces_a_wrong_prefix(
     prefix: bytes, service: str, new_prefix: bytes
@@ -102,11 +110,11 @@ def test_the_option_for_keeps_a_right_prefix(prefix: bytes) -> None:
 @pytest.mark.parametrize(
     ("service", "prefix", "new_prefix"),
     [
-        ("apache", b"{CRYPT}", b""),
-        ("nginx", b"{crypt}", b""),
-        ("nginx", b"{MD5-CRYPT}", b""),
-        ("ldap", b"{MD5-CRYPT}", b"{CRYPT}"),
-        ("ldap", b"{crypt}", b"{crypt}"),
+        pytest.param("apache", b"{CRYPT}", b"", id="{CRYPT} for Apache"),
+        pytest.param("nginx", b"{crypt}", b"", id="{crypt} for nginx"),
+        pytest.param("nginx", b"{MD5-CRYPT}", b"", id="{MD5-CRYPT} for nginx"),
+        pytest.param("ldap", b"{MD5-CRYPT}", b"{CRYPT}", id="{MD5-CRYPT} for LDAP"),
+        pytest.param("ldap", b"{crypt}", b"{crypt}", id="{crypt} for LDAP, which knows it"),
     ],
 )
 def test_a_prefix_that_only_other_services_know_is_replaced(
@@ -132,7 +140,12 @@ def test_the_option_for_keeps_a_locked_name_locked() -> None:
 
 
 @pytest.mark.parametrize(
-    ("service", "name"), [("dovecot", "Ann"), ("ldap", "a nn"), ("dovecot", "ann+x")]
+    ("service", "name"),
+    [
+        pytest.param("dovecot", "Ann", id="a capital for Dovecot"),
+        pytest.param("ldap", "a nn", id="a blank for LDAP"),
+        pytest.param("dovecot", "ann+x", id="a plus for Dovecot"),
+    ],
 )
 def test_a_new_name_that_the_service_would_misread_is_refused(service: str, name: str) -> None:
     save("passwords", OTHERS_AFTER)
@@ -212,6 +225,11 @@ def test_a_name_without_a_line_is_named(option: str) -> None:
 # ---- Locking
 
 
+def with_hashes(line: bytes) -> bytes:
+    """Returns a password file that has this line, with hashes for OLD and BCRYPT."""
+    return in_file(line.replace(b"OLD", OLD).replace(b"BCRYPT", BCRYPT))
+
+
 @pytest.mark.parametrize(
     ("unlocked", "locked"),
     [
@@ -224,14 +242,12 @@ def test_a_name_without_a_line_is_named(option: str) -> None:
     ],
 )
 def test_a_lock_is_undone_by_unlocking(unlocked: bytes, locked: bytes) -> None:
-    unlocked, locked = (
-        in_file(each.replace(b"OLD", OLD).replace(b"BCRYPT", BCRYPT)) for each in (unlocked, locked)
-    )
-    save("passwords", unlocked)
+    before, after = with_hashes(unlocked), with_hashes(locked)
+    save("passwords", before)
     done = pwhash("set", "--lock", "passwords", "ann")
-    assert (done.status, read("passwords")) == (0, locked), done
+    assert (done.status, read("passwords")) == (0, after), done
     done = pwhash("set", "--unlock", "passwords", "ann")
-    assert (done.status, read("passwords")) == (0, unlocked), done
+    assert (done.status, read("passwords")) == (0, before), done
 
 
 @pytest.mark.parametrize(
@@ -318,9 +334,16 @@ def test_a_repeated_name_is_refused(words: tuple[str, ...]) -> None:
 
 
 @pytest.mark.parametrize("line", [b" ann", b"\tann", b"ann "])
-@pytest.mark.parametrize("option", ["--lock", "--delete", "-mmd5crypt"])
+@pytest.mark.parametrize(
+    "option",
+    [
+        pytest.param("--lock", id="lock"),
+        pytest.param("--delete", id="delete"),
+        pytest.param("-mmd5crypt", id="set"),
+    ],
+)
 def test_a_blank_beside_the_name_is_refused(option: str, line: bytes) -> None:
-    """Apache ignores a blank in front of a name. nginx doesn't."""
+    """Apache ignores a blank in front of a name, and nginx doesn't."""
     content = line + b":" + MD5.encode() + b"\nann:" + MD5.encode() + b"\n"
     save("file", content)
     done = pwhash("set", option, "file", "ann", stdin=b"password\n")
@@ -391,6 +414,8 @@ def test_a_password_that_is_not_hashed_changes_nothing(password: bytes) -> None:
 
 # ---- At a terminal
 
+CTRL_C = b"\x03"
+
 
 def test_a_password_is_asked_for_twice() -> None:
     save("passwords", b"ann:x\n")
@@ -407,7 +432,7 @@ def test_two_passwords_that_differ_change_nothing() -> None:
 
 def test_a_new_name_is_shown_before_its_password_is_asked_for() -> None:
     save("passwords", b"ann:x\n")
-    terminal = at_terminal(("set", *MD5CRYPT, "passwords", "anm"), [b"\x03"])
+    terminal = at_terminal(("set", *MD5CRYPT, "passwords", "anm"), [CTRL_C])
     assert b"passwords has no anm" in terminal.screen, terminal
     assert read("passwords") == b"ann:x\n", terminal
 

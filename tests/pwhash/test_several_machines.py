@@ -10,7 +10,8 @@ from support.pwhash_copies import Copy
 from support.pwhash_runs import hashed, users
 
 COUNT = 1500
-# Halves what GNU parallel made, so that pwhash has something to complete.
+THIS_MACHINE = b"2/:\n"  # with two jobs, as GNU parallel writes it
+# Halves the part from GNU parallel, so that pwhash has something to complete.
 CUT = "cut=$(wc -c < hashes.part); truncate -s $((cut / 2)) hashes.part; "
 
 
@@ -24,7 +25,7 @@ def quick_recipe() -> str:
 
 @pytest.mark.needs("parallel")
 def test_pwhash_completes_the_hashes_from_gnu_parallel(copy: Copy, folder: Path) -> None:
-    (folder / "hosts").write_bytes(b"2/:\n")
+    (folder / "hosts").write_bytes(THIS_MACHINE)
     (folder / "passwords").write_bytes(users(COUNT))
     (copy.folder / "bin/mkpasswd.proved").symlink_to("mkpasswd")
     path = f"{copy.folder}/bin:/usr/bin:/bin"
@@ -32,6 +33,7 @@ def test_pwhash_completes_the_hashes_from_gnu_parallel(copy: Copy, folder: Path)
     assert done.status == 0, done
     hashes = (folder / "hashes").read_bytes().splitlines()
     assert len(hashes) == COUNT, done
-    for n in 0, 700, COUNT - 1:
-        name, made = hashes[n].split(b":")
-        assert (name, made) == (b"user%d" % n, hashed(b"password%d" % n, made.decode()))
+    for number in 0, COUNT // 2, COUNT - 1:
+        name, stored = hashes[number].split(b":")
+        assert name == b"user%d" % number
+        assert stored == hashed(b"password%d" % number, stored.decode())

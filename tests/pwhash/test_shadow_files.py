@@ -6,9 +6,9 @@ import os
 
 import pytest
 from support.pwhash_runs import (
-    Ended,
     MD5,
     PWHASH,
+    Ended,
     ended,
     pwhash,
     read,
@@ -62,7 +62,7 @@ def test_a_file_without_fields_is_named(script: str, reason: bytes) -> None:
 def test_fields_are_read_from_a_pipe_or_standard_input(script: str, status: int) -> None:
     save("shadow", SHADOW)
     save("list", b"ann:password\n")
-    save("many", b"eve:!:1:::\n" * 1000000)
+    save("many", b"eve:!:1:::\n" * 1_000_000)
     done = bash(script)
     assert (done.status, done.out) == (status, b"ann:ok\n"), done
 

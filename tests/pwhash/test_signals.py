@@ -25,7 +25,7 @@ with needed("python3-pexpect"):
     import pexpect
 
 
-def at_again(script: str = "", words: tuple[str, ...] = MD5CRYPT) -> pexpect.spawn[bytes]:
+def at_second_prompt(script: str = "", words: tuple[str, ...] = MD5CRYPT) -> pexpect.spawn[bytes]:
     """Returns a terminal at which pwhash has read a password and asks for it again."""
     script = f"{script}\nexec {PWHASH} {shlex.join(words)}"
     child = pexpect.spawn("/bin/sh", ["-c", script], timeout=60)
@@ -43,7 +43,7 @@ def at_again(script: str = "", words: tuple[str, ...] = MD5CRYPT) -> pexpect.spa
 def test_no_signal_writes_a_typed_password_to_a_file(number: int) -> None:
     if shell("ulimit -c unlimited").status != 0:
         not_applicable("this process may write no core files")
-    child = at_again("ulimit -c unlimited || exit")
+    child = at_second_prompt("ulimit -c unlimited || exit")
     child.kill(number)
     child.expect(pexpect.EOF)
     child.close()
@@ -60,15 +60,16 @@ def test_no_limit_writes_a_password_to_a_file() -> None:
 
 def fatal_signals() -> list[int]:
     """Returns the signals that end a process, can be caught, and aren't ignored by Python."""
-    harmless = {"KILL", "STOP", "TSTP", "TTIN", "TTOU", "CONT", "CHLD", "URG", "WINCH"}
-    harmless |= {"PIPE", "XFSZ"}
-    names = {f"SIG{name}" for name in harmless}
-    return [each for each in signal.Signals if each.name not in names]
+    uncatchable = {"KILL", "STOP"}
+    not_fatal = {"TSTP", "TTIN", "TTOU", "CONT", "CHLD", "URG", "WINCH"}
+    ignored_by_python = {"PIPE", "XFSZ"}
+    others = {f"SIG{name}" for name in uncatchable | not_fatal | ignored_by_python}
+    return [number for number in signal.Signals if number.name not in others]
 
 
 @pytest.mark.parametrize("number", fatal_signals(), ids=lambda number: signal.Signals(number).name)
 def test_the_terminal_shows_keys_after_any_signal(number: int) -> None:
-    child = at_again()
+    child = at_second_prompt()
     was_hidden = not shows_keys(child.child_fd)
     child.kill(number)
     child.expect(pexpect.EOF)
@@ -79,9 +80,13 @@ def test_the_terminal_shows_keys_after_any_signal(number: int) -> None:
 
 LONG_HASH = ("-m", "sha512crypt", "-R", "300M", "--budget", "1000000M")
 MOST_SECONDS = 1.0  # from a signal to the end
+# The place of utime, the processor time, among the fields after the name in /proc/PID/stat, and its
+# unit.
+UTIME = 11
+TICKS_OF_SECOND = os.sysconf("SC_CLK_TCK")
 
 
-def give(process: subprocess.Popen[bytes], data: bytes) -> None:
+def write_and_close(process: subprocess.Popen[bytes], data: bytes) -> None:
     """Writes data to a process's standard input, and closes it."""
     assert process.stdin
     process.stdin.write(data)
@@ -93,8 +98,9 @@ def is_hashing(process: int) -> bool:
     """Returns whether a thread other than the first has used 0.1 s of processor time."""
     for path in pathlib.Path(f"/proc/{process}/task").glob("*/stat"):
         with contextlib.suppress(OSError):
-            text = path.read_text(encoding="latin-1").rpartition(")")[2]
-            if path.parent.name != str(process) and int(text.split()[11]) >= 10:
+            fields = path.read_text(encoding="latin-1").rpartition(")")[2].split()
+            is_first = path.parent.name == str(process)
+            if not is_first and int(fields[UTIME]) >= TICKS_OF_SECOND / 10:
                 return True
     return False
 
@@ -121,7 +127,7 @@ def test_a_signal_ends_a_run_during_a_costly_hash(
 ) -> None:
     def attempt() -> float:
         with started(*words) as process:
-            give(process, data)
+            write_and_close(process, data)
             wait_for(lambda: is_hashing(process.pid))
             seconds, done = seconds_to_end(process, number)
         assert done.status == -number and done.out == b"", done

@@ -1,7 +1,6 @@
 """One password on standard input: pwhash reports what may be a mistake."""
 from __future__ import annotations
 
-
 import pytest
 from support.pwhash_runs import MD5CRYPT, hashed, pwhash, save, shell
 

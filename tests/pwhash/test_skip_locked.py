@@ -52,6 +52,7 @@ NOT_LOCKED = [
 
 
 def shadow_with_eve(field: bytes) -> None:
+    """Saves the list, and a shadow file in which Eve has this field and Bob no hash yet."""
     lines = [b"root:*", b"ann:" + MD5.encode(), b"eve:" + field, b"bob:!"]
     save("shadow", b"".join(line + b":19000:0:99999:7:::\n" for line in lines))
     save("list", LIST)
@@ -122,7 +123,8 @@ def test_many_locked_names_are_counted() -> None:
     save("list", users(1001))
     done = pwhash(*WORDS, "list", "-o", "hashes")
     assert done.status == 0 and read("hashes").startswith(b"user1000:"), done
-    assert len(done.err.splitlines()) == 21 and b": 1,000." in done.err, done
+    # Twenty names, and a summary.
+    assert len(done.err.splitlines()) == 20 + 1 and b": 1,000." in done.err, done
 
 
 def test_other_problems_are_shown_beside_locked_names() -> None:
@@ -192,6 +194,7 @@ def test_other_changes_of_the_file_end_no_run() -> None:
 
 
 def interrupted() -> None:
+    """Starts a run in which user0 is locked, and kills it halfway."""
     save("shadow", b"user0:!x\nuser1:$1$x$y\n")
     save("list", users(SLOW_COUNT))
     words = ("file", *SLOW, "--skip-locked", "shadow", "list", "-o", "hashes")
@@ -207,7 +210,7 @@ def test_a_run_resumes_without_the_locked_names() -> None:
     interrupted()
     done = pwhash(*RESUMED, "--skip-locked", "shadow")
     assert done.status == 0 and read("hashes").count(b"\n") == SLOW_COUNT - 1, done
-    assert not re.search(rb"(?m)^user0:", read("hashes")), done
+    assert not re.search(rb"^user0:", read("hashes"), re.MULTILINE), done
 
 
 def test_a_run_does_not_resume_with_other_locked_names() -> None:

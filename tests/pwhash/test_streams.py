@@ -39,7 +39,8 @@ def written_until_it_waits(process: subprocess.Popen[bytes]) -> int:
 
 def test_nothing_is_read_while_nobody_reads_the_answers() -> None:
     """Otherwise pwhash would take more and more memory."""
-    with subprocess.Popen([PWHASH, "check"], stdin=-1, stdout=-1, bufsize=0) as process:
+    pipe = subprocess.PIPE
+    with subprocess.Popen([PWHASH, "check"], stdin=pipe, stdout=pipe, bufsize=0) as process:
         try:
             assert written_until_it_waits(process) < GREATEST
         finally:

@@ -94,15 +94,19 @@ def test_a_known_password_with_a_zero_byte_in_the_first_row_is_not_cut() -> None
     assert (done.status, done.out) == (1, b"") and b"zero byte" in done.err, done
 
 
-@pytest.mark.parametrize("row", [b"ann", b",password", b"password,"], ids=os.fsdecode)
-def test_a_row_without_a_name_or_password_is_tried_for_nobody(row: bytes) -> None:
+@pytest.mark.parametrize(
+    "table",
+    [
+        pytest.param(b"name,password\nann,password\nann\n", id="a name alone"),
+        pytest.param(b"name,password\nann,password\n,password\n", id="an empty name"),
+        pytest.param(
+            b"password,name\npassword,ann\npassword,\n", id="an empty name in the last column"
+        ),
+    ],
+)
+def test_a_row_without_a_name_or_password_is_tried_for_nobody(table: bytes) -> None:
     save("shadow", b"ann:%b:1:::\nbob:%b:1:::\n" % (MD5.encode(), hashed(b"ann")))
-    table = (
-        b"password,name\npassword,ann\n"
-        if row == b"password,"
-        else b"name,password\nann,password\n"
-    )
-    done = pwhash("check", "--csv", "--shadow", "shadow", stdin=table + row + b"\n")
+    done = pwhash("check", "--csv", "--shadow", "shadow", stdin=table)
     assert (done.status, done.out, lines_named_in(done.err)) == (1, b"ann:ok\n", [3]), done
 
 
@@ -119,10 +123,10 @@ def test_rows_joined_by_a_stray_quote_are_refused() -> None:
 @pytest.mark.parametrize("separator", [b",", b";", b"\t"], ids=["comma", "semicolon", "tab"])
 @pytest.mark.parametrize("end", [b"\n", b"\r\n"], ids=["a line feed", "a line end from Windows"])
 def test_a_heading_of_two_lines_is_named_and_its_table_read(separator: bytes, end: bytes) -> None:
-    rows = [[b'"last', b'login"', b"name", b"password"], [b"never", b"bob", b"password"]]
-    table = end.join(separator.join(row) for row in rows) + end
-    table = table.replace(b'"last' + separator + b'login"', b'"last' + end + b'login"')
-    done = pwhash("file", "--csv", *MD5CRYPT, save("table", table), "--skip-refused")
+    heading = separator.join([b'"last' + end + b'login"', b"name", b"password"])
+    row = separator.join([b"never", b"bob", b"password"])
+    table = save("table", heading + end + row + end)
+    done = pwhash("file", "--csv", *MD5CRYPT, table, "--skip-refused")
     assert (done.status, done.out) == (1, b"bob:" + MD5.encode() + b"\n"), done
     assert lines_named_in(done.err) == [2] and b"line feed" in done.err, done
 

@@ -28,6 +28,8 @@ with needed("python3-pexpect"):
     import pexpect
 
 HALF_ERASED = b"TopSecret\xc3\xbc\x7f1"  # some terminals erase only one byte of the character
+CTRL_C, CTRL_D, CTRL_Z, CTRL_BACKSLASH = b"\x03", b"\x04", b"\x1a", b"\x1c"
+LOCAL_MODES = 3  # their place in what tcgetattr returns
 
 
 @pytest.mark.parametrize(
@@ -117,8 +119,8 @@ def test_a_typed_password_that_is_not_utf8_is_named() -> None:
         pytest.param([b"TopSecret\xc3\r", b"TopSecret\xfc\r"], id="two that differ"),
         pytest.param([b"TopSecret\xfc\x00\r"] * 2, id="a zero byte"),
         pytest.param([b"TopSecret\xfc" + b"x" * 1100 + b"\r"] * 2, id="too long"),
-        pytest.param([b"TopSecret\xfc\x04\x04"], id="Ctrl-D after it"),
-        pytest.param([b"TopSecret\xfc\x03"], id="Ctrl-C after it"),
+        pytest.param([b"TopSecret\xfc" + CTRL_D + CTRL_D], id="Ctrl-D after it"),
+        pytest.param([b"TopSecret\xfc" + CTRL_C], id="Ctrl-C after it"),
     ],
 )
 def test_no_message_shows_the_typed_password(typed: list[bytes]) -> None:
@@ -133,6 +135,7 @@ def test_no_message_shows_the_typed_password(typed: list[bytes]) -> None:
     screen += child.before
     child.close()
     for text in screen, read("log"):
+        # Neither the password nor Python's form of a value or an error that has it.
         assert not re.search(rb"Secret|\\x|Error\(", text), (screen, read("log"))
 
 
@@ -141,9 +144,9 @@ def test_no_message_shows_the_typed_password(typed: list[bytes]) -> None:
     [
         pytest.param([b"secret\r", b"secret\r"], None, 0, id="success"),
         pytest.param([b"secret\r", b"other\r"], None, 2, id="two that differ"),
-        pytest.param([b"\x04"], None, 2, id="Ctrl-D"),
-        pytest.param([b"secret\r", b"\x03"], None, -signal.SIGINT, id="Ctrl-C"),
-        pytest.param([b"\x1c"], None, -signal.SIGQUIT, id="Ctrl-backslash"),
+        pytest.param([CTRL_D], None, 2, id="Ctrl-D"),
+        pytest.param([b"secret\r", CTRL_C], None, -signal.SIGINT, id="Ctrl-C"),
+        pytest.param([CTRL_BACKSLASH], None, -signal.SIGQUIT, id="Ctrl-backslash"),
         pytest.param([], signal.SIGTERM, -signal.SIGTERM, id="SIGTERM"),
         pytest.param([], signal.SIGQUIT, -signal.SIGQUIT, id="SIGQUIT"),
     ],
@@ -160,9 +163,9 @@ def test_the_terminal_shows_keys_again_after(
 @pytest.mark.parametrize(
     "keys",
     [
-        pytest.param([b"\x04"], id="at the first prompt"),
-        pytest.param([b"secret\r", b"\x04"], id="at the second prompt"),
-        pytest.param([b"secret\x04\x04"], id="after a password"),
+        pytest.param([CTRL_D], id="at the first prompt"),
+        pytest.param([b"secret\r", CTRL_D], id="at the second prompt"),
+        pytest.param([b"secret" + CTRL_D + CTRL_D], id="after a password"),
     ],
 )
 def test_ctrl_d_at_a_prompt_is_named(keys: list[bytes]) -> None:
@@ -177,7 +180,7 @@ def test_a_prompt_that_was_stopped_and_continued_hides_the_password() -> None:
     child.kill(signal.SIGSTOP)
     wait_for(lambda: state_of(child.pid) == "T")
     flags = termios.tcgetattr(child.child_fd)
-    flags[3] |= termios.ECHO  # as a shell does
+    flags[LOCAL_MODES] |= termios.ECHO  # as a shell does
     termios.tcsetattr(child.child_fd, termios.TCSANOW, flags)
     child.kill(signal.SIGCONT)
     wait_for(lambda: not shows_keys(child.child_fd))
@@ -201,7 +204,7 @@ def test_ctrl_z_at_a_prompt_shows_keys_until_fg(monkeypatch: pytest.MonkeyPatch)
     child.expect_exact("shell> ")
     child.send(f"{PWHASH} {shlex.join(MD5CRYPT)}\r")
     child.expect_exact("Password: ")
-    child.send(b"half\x1a")
+    child.send(b"half" + CTRL_Z)
     child.expect_exact("shell> ")
     screen = bytes(child.before)
     wait_for(lambda: shows_keys(child.child_fd))
@@ -223,7 +226,7 @@ def test_ctrl_z_at_a_prompt_shows_keys_until_fg(monkeypatch: pytest.MonkeyPatch)
 def test_ctrl_z_without_a_shell_that_could_continue_asks_again() -> None:
     child = pexpect.spawn(PWHASH, list(MD5CRYPT), timeout=60)
     child.expect_exact("Password: ")
-    child.send(b"half\x1a")
+    child.send(b"half" + CTRL_Z)
     child.expect_exact("Password: ")
     screen = bytes(child.before) + type_secret(child)
     assert hashed(b"secret") in screen.split(), screen
@@ -236,7 +239,7 @@ def test_a_stopped_prompt_can_be_ended(monkeypatch: pytest.MonkeyPatch) -> None:
     child.expect_exact("shell> ")
     child.send(f"{PWHASH} {shlex.join(MD5CRYPT)}\r")
     child.expect_exact("Password: ")
-    child.send(b"\x1a")
+    child.send(CTRL_Z)
     child.expect_exact("shell> ")
     child.send("jobs -p > job; kill %1; bg; wait\r")
     wait_for(lambda: os.path.exists("job") and read("job") != b"")
@@ -253,17 +256,16 @@ def test_keys_after_the_password_are_not_left_for_the_shell() -> None:
     child.send(b"secret\r" * 3)
     child.expect_exact(hashed(b"secret"))
     child.send(b"typed later\r")
-    answers = [b"[typed later]", b"[secret]"]
-    read_by_the_shell = answers[child.expect_exact(answers)]
+    place = child.expect_exact([b"[typed later]", b"[secret]"])
     child.close()
-    assert read_by_the_shell == b"[typed later]"
+    assert place == 0, "the shell has read what was typed to pwhash"
 
 
 def test_a_generated_password_is_shown_with_its_hash() -> None:
     terminal = at_terminal(("--generate", *MD5CRYPT), [])
-    password, made = terminal.screen.split()[-2:]
+    password, stored = terminal.screen.split()[-2:]
     assert terminal.status == 0 and len(password) == 20, terminal
-    assert made == hashed(password), terminal
+    assert stored == hashed(password), terminal
 
 
 def test_no_password_is_generated_without_a_terminal() -> None:

@@ -6,7 +6,6 @@ import os
 import pytest
 from support.pwhash_runs import MD5CRYPT, pwhash, read, save, shell
 
-
 TABLE = ("file", *MD5CRYPT, "--csv")
 
 

@@ -12,6 +12,7 @@ from support.pwhash_copies import Copy
 from support.pwhash_runs import (
     BOM,
     MD5,
+    Ended,
     at_terminal,
     hashed,
     least_seconds,
@@ -34,6 +35,8 @@ SETTINGS = [
 ]
 SECRET = b"TopSecret"
 HASH = hashed(SECRET)
+MD5_SETTING, MD5_DIGEST = MD5[:12].encode(), MD5[12:].encode()
+CTRL_C, CTRL_D = b"\x03", b"\x04"
 COSTLY = b"$6$rounds=999999999$saltsalt$" + b"x" * 85 + b"."
 FIELDS = [
     pytest.param(MD5[:-1].encode(), b"cut or changed", id="a truncated hash"),
@@ -59,6 +62,7 @@ FIELDS = [
 
 
 def ann_in_file(field: bytes) -> None:
+    """Saves a file in which Ann has this field, among names that resemble hers."""
     save("file", b"an:" + MD5.encode() + b"\nann:" + field + b":1:::\nanna:!\n")
 
 
@@ -142,6 +146,13 @@ PASTED = [
     pytest.param(b"<user_password>FIRSTREST</user_password>", id="a line of AutoYaST"),
     pytest.param(b"userPassword: {CRYPT}FIRSTREST", id="a line of LDIF"),
     pytest.param(b"> > FIRST\n> > REST\n", id="a reply to an e-mail"),
+    pytest.param(b"> On Tue, Bob wrote:\n> > ann:FIRSTREST\n", id="who wrote an e-mail"),
+    pytest.param(
+        b"On Tue, 1 Dec 2026 at 14:18, Bob <bob@example.org> wrote:\r\n> FIRST\r\n> REST",
+        id="when somebody wrote an e-mail",
+    ),
+    pytest.param("Bob a \xe9crit\xa0:\n\n> FIRSTREST".encode(), id="who wrote it, in French"),
+    pytest.param(b"the hash of ann: FIRSTREST", id="words before the hash"),
     pytest.param("\u201cFIRSTREST\u201d".encode(), id="quotes of a word processor"),
     pytest.param(b"HOST$:FIRSTREST:19000::::::", id="the account of a machine"),
 ]
@@ -171,8 +182,18 @@ def test_a_line_break_may_be_within_the_setting(length: int, line_break: bytes) 
 
 def test_the_rest_of_a_hash_may_come_later() -> None:
     stored = hashed(SECRET, "$6$rounds=10000$saltsalt").decode()
-    parts = f"echo '{stored[:12]}'; sleep 0.2; echo '{stored[12:50]}'; sleep 0.2"
-    done = shell(f"(echo TopSecret; {parts}; echo '{stored[50:]}') | \"$@\"", "verify")
+    first, second, rest = stored[:12], stored[12:50], stored[50:]
+    script = f"""
+        {{
+            echo TopSecret
+            echo '{first}'
+            sleep 0.2
+            echo '{second}'
+            sleep 0.2
+            echo '{rest}'
+        }} | "$@"
+    """
+    done = shell(script, "verify")
     assert (done.status, done.out) == (0, YES), done
 
 
@@ -202,7 +223,8 @@ def test_what_only_contains_a_hash_is_not_compared(pasted: bytes, reason: bytes)
     save("input", SECRET + b"\n" + pasted.replace(b"HASH", HASH) + b"\n")
     done = shell('"$@" < input', "verify")
     assert (done.status, done.out) == (2, b"") and reason in done.err, done
-    assert SECRET not in done.err and HASH[12:] not in done.err, done
+    digest = HASH.rpartition(b"$")[2]
+    assert SECRET not in done.err and digest not in done.err, done
 
 
 def test_pwhash_does_not_wait_for_more_after_a_complete_hash() -> None:
@@ -228,7 +250,8 @@ def test_pwhash_does_not_wait_for_more_after_a_complete_hash() -> None:
 def test_a_no_says_what_is_odd_about_the_password(password: bytes, reason: bytes) -> None:
     done = pwhash("verify", stdin=password + b"\n" + MD5.encode())
     assert (done.status, done.out) == (1, NO) and reason in done.err, done
-    assert b"word\n" not in done.err and b"ssword" not in done.err.replace(b"password", b""), done
+    shown = done.err.replace(b"password", b"")  # the messages' own word
+    assert b"word\n" not in done.err and b"ssword" not in shown, done
 
 
 def test_ignored_lines_are_reported() -> None:
@@ -242,9 +265,10 @@ def test_ignored_lines_are_reported() -> None:
 # ---- Neither yes nor no
 
 
-def assert_refused(status: int, out: bytes, err: bytes, reason: bytes) -> None:
-    assert status in (2, 3) and out == b"" and reason in err, (status, out, err)
-    assert SECRET not in err and MD5.encode()[12:] not in err, err
+def assert_refused(done: Ended, reason: bytes) -> None:
+    """Fails unless the run said neither yes nor no, gave this reason, and showed no secret."""
+    assert done.status in (2, 3) and done.out == b"" and reason in done.err, done
+    assert SECRET not in done.err and MD5_DIGEST not in done.err, done
 
 
 @pytest.mark.parametrize(("field", "reason"), FIELDS)
@@ -253,10 +277,10 @@ def test_a_field_that_no_password_matches_is_neither_yes_nor_no(
 ) -> None:
     ann_in_file(field)
     done = pwhash("verify", "file", "ann", stdin=SECRET + b"\n")
-    assert_refused(done.status, done.out, done.err, reason)
+    assert_refused(done, reason)
     assert b"file, line 2 (ann): " in done.err, done
     done = pwhash("verify", stdin=SECRET + b"\n" + field + b"\n")
-    assert_refused(done.status, done.out, done.err, reason)
+    assert_refused(done, reason)
 
 
 def test_the_limit_is_that_of_a_login_and_can_be_raised() -> None:
@@ -277,7 +301,7 @@ def test_the_limit_is_that_of_a_login_and_can_be_raised() -> None:
 )
 def test_a_password_that_no_hash_can_have_is_refused(password: bytes, reason: bytes) -> None:
     done = pwhash("verify", stdin=password + b"\n" + MD5.encode())
-    assert_refused(done.status, done.out, done.err, reason)
+    assert_refused(done, reason)
 
 
 @pytest.mark.parametrize(
@@ -288,13 +312,16 @@ def test_a_password_that_no_hash_can_have_is_refused(password: bytes, reason: by
         pytest.param(SECRET + b"\n", b"second", id="a password and a line feed"),
         pytest.param(SECRET + b"\nann::" + MD5.encode(), b"empty", id="a line without a hash"),
         pytest.param(SECRET + b"\n(" + MD5.encode() + b")", b"stored as it is", id="brackets"),
-        # To search this for a hash took more than a minute.
+        pytest.param(SECRET + b"\n> On Tue, Bob wrote:\n", b"no hash", id="who wrote an e-mail"),
+        pytest.param(SECRET + b"\nann smith:!:1:", b"locked", id="a name of two words"),
+        pytest.param(SECRET + b"\nann smith:x:", b"stored as it is", id="a field of one letter"),
+        # A search of so many bytes for a hash once took more than a minute.
         pytest.param(SECRET + b"\n" + b"!" * 131000, b"4,096 bytes", id="much too many bytes"),
     ],
 )
 def test_input_without_a_hash_is_refused(data: bytes, reason: bytes) -> None:
     done = pwhash("verify", stdin=data)
-    assert_refused(done.status, done.out, done.err, reason)
+    assert_refused(done, reason)
 
 
 @pytest.mark.parametrize(
@@ -309,7 +336,7 @@ def test_input_without_a_hash_is_refused(data: bytes, reason: bytes) -> None:
 @pytest.mark.parametrize("second", [SECRET, b"with:colon", b""])
 def test_a_hash_before_the_password_is_named(first: bytes, second: bytes) -> None:
     done = pwhash("verify", stdin=first + b"\n" + second + b"\n")
-    assert_refused(done.status, done.out, done.err, b"the password first, then the hash")
+    assert_refused(done, b"the password first, then the hash")
 
 
 def test_the_line_of_another_user_after_a_truncated_hash_is_not_compared() -> None:
@@ -318,7 +345,7 @@ def test_the_line_of_another_user_after_a_truncated_hash_is_not_compared() -> No
 
 
 def test_a_hash_after_a_blank_line_may_come_later() -> None:
-    script = f"(echo TopSecret; echo; sleep 0.5; echo '{HASH.decode()}') | \"$@\""
+    script = f"""{{ echo TopSecret; echo; sleep 0.5; echo '{HASH.decode()}'; }} | "$@" """
     done = shell(script, "verify")
     assert (done.status, done.out) == (0, YES), done
 
@@ -330,7 +357,7 @@ def test_fields_after_a_hash_without_a_name_are_left_out() -> None:
 
 def test_a_password_that_begins_with_a_dollar_sign_is_not_a_hash() -> None:
     done = pwhash("verify", stdin=b"$ecret\n" + SECRET + b"\n")
-    assert_refused(done.status, done.out, done.err, b"stored as it is")
+    assert_refused(done, b"stored as it is")
 
 
 def test_a_password_may_be_a_hash() -> None:
@@ -368,14 +395,19 @@ def test_a_password_may_be_a_hash() -> None:
 def test_invalid_arguments_are_refused(words: list[str], reason: bytes) -> None:
     save("void", b"")
     os.mkfifo("pipe")
-    end = MD5.encode()
-    save(
-        "file",
-        b"an:%b\nann:%b\nbob:%b\n#eve:%b\nbob:%b\ndan\ncr:%b\r\n"
-        % (end[:-1], end, end, end, end, end),
-    )
+    stored = MD5.encode()
+    lines = [
+        b"an:" + stored[:-1],
+        b"ann:" + stored,
+        b"bob:" + stored,
+        b"#eve:" + stored,
+        b"bob:" + stored,
+        b"dan",
+        b"cr:" + stored + b"\r",
+    ]
+    save("file", b"".join(line + b"\n" for line in lines))
     done = pwhash("verify", *words, stdin=SECRET + b"\n")
-    assert_refused(done.status, done.out, done.err, reason)
+    assert_refused(done, reason)
 
 
 def test_the_file_can_be_a_pipe_of_the_shell() -> None:
@@ -403,6 +435,9 @@ def test_an_answer_that_cannot_be_written_is_neither_yes_nor_no() -> None:
     assert (done.status, read("file")) == (0, YES), done
 
 
+MOST_SECONDS = 1.0  # from a signal to the end
+
+
 @pytest.mark.parametrize("number", [signal.SIGINT, signal.SIGTERM, signal.SIGKILL])
 def test_a_signal_ends_a_comparison_at_once(number: signal.Signals) -> None:
     def attempt() -> float:
@@ -415,7 +450,7 @@ def test_a_signal_ends_a_comparison_at_once(number: signal.Signals) -> None:
         assert done.out == b"" and done.status == -number, done
         return seconds
 
-    assert least_seconds(attempt, 1) <= 1
+    assert least_seconds(attempt, MOST_SECONDS) <= MOST_SECONDS
 
 
 @pytest.mark.parametrize("kibibytes", range(4000, 60000, 8000))
@@ -429,12 +464,18 @@ def test_with_little_memory_no_answer_is_wrong(kibibytes: int) -> None:
 
 
 @pytest.mark.needs("python3-pexpect")
-@pytest.mark.parametrize(("typed", "status"), [(b"password", 0), (b"Password", 1)])
-def test_a_pasted_hash_is_compared_and_not_shown(typed: bytes, status: int) -> None:
+@pytest.mark.parametrize(
+    ("typed", "status", "answer"),
+    [
+        pytest.param(b"password", 0, YES, id="the password"),
+        pytest.param(b"Password", 1, NO, id="another password"),
+    ],
+)
+def test_a_pasted_hash_is_compared_and_not_shown(typed: bytes, status: int, answer: bytes) -> None:
     terminal = at_terminal(["verify"], [typed + b"\r", b" " + MD5.encode() + b" \r"])
     assert terminal.status == status and not terminal.shows_keys_at_prompt, terminal
     assert MD5.encode() not in terminal.screen and terminal.shows_keys_afterwards, terminal
-    assert terminal.screen.endswith((YES, NO)[status].replace(b"\n", b"\r\n")), terminal
+    assert terminal.screen.endswith(answer.replace(b"\n", b"\r\n")), terminal
 
 
 @pytest.mark.needs("python3-pexpect")
@@ -442,19 +483,29 @@ def test_a_pasted_hash_is_compared_and_not_shown(typed: bytes, status: int) -> N
     "keys",
     [
         pytest.param([b"\r" + MD5.encode() + b"\r"], id="a leading line break"),
-        pytest.param([MD5[:12].encode() + b"\r" + MD5[12:].encode() + b"\r"], id="one inside"),
-        pytest.param([MD5[:12].encode() + b"\r" + MD5[12:].encode(), b"\r"], id="Return later"),
+        pytest.param([MD5_SETTING + b"\r" + MD5_DIGEST + b"\r"], id="one inside"),
+        pytest.param([MD5_SETTING + b"\r" + MD5_DIGEST, b"\r"], id="Return later"),
         pytest.param([b"ann:" + MD5.encode() + b":1:0:9:7:::\r"], id="a line from shadow"),
+        pytest.param(
+            [b"> On Tue, Bob wrote:\r", b"> > " + MD5.encode() + b"\r"], id="who wrote an e-mail"
+        ),
     ],
 )
 def test_line_breaks_in_a_pasted_hash_do_not_end_it(keys: list[bytes]) -> None:
     terminal = at_terminal(["verify"], [b"password\r", *keys])
     assert terminal.status == 0 and not terminal.shows_keys_at_prompt, terminal
-    assert MD5[12:].encode() not in terminal.screen and terminal.shows_keys_afterwards, terminal
+    assert MD5_DIGEST not in terminal.screen and terminal.shows_keys_afterwards, terminal
 
 
 @pytest.mark.needs("python3-pexpect")
-@pytest.mark.parametrize(("typed", "status"), [(b"password", 0), (b"", 1), (b"p\xe4ssword", 1)])
+@pytest.mark.parametrize(
+    ("typed", "status"),
+    [
+        pytest.param(b"password", 0, id="the password"),
+        pytest.param(b"", 1, id="nothing"),
+        pytest.param(b"p\xe4ssword", 1, id="Latin-1"),
+    ],
+)
 def test_a_name_of_a_file_needs_only_a_password(typed: bytes, status: int) -> None:
     ann_in_file(MD5.encode())
     terminal = at_terminal(["verify", "file", "ann"], [typed + b"\r"])
@@ -474,9 +525,9 @@ def test_a_locked_name_is_not_asked_for_a_password() -> None:
 @pytest.mark.parametrize(
     ("keys", "status"),
     [
-        pytest.param([b"password\r", b"\x04"], 2, id="Ctrl-D"),
-        pytest.param([b"password\r", b"\x03"], -signal.SIGINT, id="Ctrl-C"),
-        pytest.param([b"password\r", b"\r", b"\x04"], 2, id="Return and Ctrl-D"),
+        pytest.param([b"password\r", CTRL_D], 2, id="Ctrl-D"),
+        pytest.param([b"password\r", CTRL_C], -signal.SIGINT, id="Ctrl-C"),
+        pytest.param([b"password\r", b"\r", CTRL_D], 2, id="Return and Ctrl-D"),
         pytest.param([b"password\r", MD5[:-9].encode() + b"\r", b"\r"], 2, id="a part of a hash"),
     ],
 )

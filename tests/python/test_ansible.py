@@ -7,6 +7,7 @@ import secrets
 
 import pytest
 from support.package import environment_of, recipe, package_under_test
+from support.passwords import LONGEST_BY_DEFAULT, TOO_COSTLY
 from support.process import run
 from support.stored_strings import MD5
 
@@ -43,7 +44,7 @@ TASKS = {
     "number": f"{{{{ 5 | {HASH} }}}}",
     "longest": f"it is {{{{ fresh | {VERIFY}(fresh_hash) }}}}",
     "longest_kept": f"it is {{{{ (fresh | {HASH}(current=fresh_hash)) == fresh_hash }}}}",
-    "too_long": f"{{{{ ('x' * 169) | {HASH} }}}}",
+    "too_long": f"{{{{ '{TOO_COSTLY}' | {HASH} }}}}",
     "hash_within": f"{{{{ 'password' | {HASH}(budget=1) }}}}",
     "verify_within": f"it is {{{{ 'password' | {VERIFY}(stored, budget=1) }}}}",
     "verify_locked": f"it is {{{{ 'password' | {VERIFY}('!' + stored) }}}}",
@@ -51,7 +52,6 @@ TASKS = {
     "verify_malformed": f"{{{{ 'password' | {VERIFY}('$6$rounds=0$x$x') }}}}",
     "verify_password": f"{{{{ 'password' | {VERIFY}('password') }}}}",
 }
-LONGEST = "x" * 168
 
 
 @pytest.fixture(scope="module", name="messages")
@@ -68,23 +68,30 @@ def fixture_messages(tmp_path_factory: pytest.TempPathFactory) -> dict[str, str]
     with (folder / "vault.yml").open("w", encoding="ascii") as file:
         for name, value in ("vaulted", "password"), ("vaulted_hash", MD5):
             command = ("/usr/bin/ansible-vault", "encrypt_string", *key, "--name", name, value)
-            vault = run(*command, env=environment, cwd=folder).required().stdout.decode()
-            file.write(vault[vault.index(f"{name}:") :].partition("\nEncryption")[0] + "\n")
+            printed = run(*command, env=environment, cwd=folder).required().stdout.decode()
+            # ansible-vault may print messages before and after the variable.
+            variable = printed[printed.index(f"{name}:") :].partition("\nEncryption")[0]
+            file.write(f"{variable}\n")
     (folder / "filter_plugins").mkdir()
     (folder / "filter_plugins/mkpasswd.py").write_text(recipe("Ansible"), encoding="ascii")
     play = {
         "hosts": "localhost",
         "gather_facts": False,
-        "vars": {"stored": MD5, "fresh": LONGEST, "fresh_hash": mkpasswd.hash(LONGEST)},
+        "vars": {
+            "stored": MD5,
+            "fresh": LONGEST_BY_DEFAULT,
+            "fresh_hash": mkpasswd.hash(LONGEST_BY_DEFAULT),
+        },
         "vars_files": ["vault.yml"],
         "tasks": [
-            {"name": name, "debug": {"msg": words}, "ignore_errors": True}
-            for name, words in TASKS.items()
+            {"name": name, "debug": {"msg": message}, "ignore_errors": True}
+            for name, message in TASKS.items()
         ],
     }
     (folder / "play.yml").write_text(json.dumps([play]), encoding="ascii")
     words = ("-i", "localhost,", "-c", "local", *key, "play.yml")
     result = run("/usr/bin/ansible-playbook", *words, env=environment, cwd=folder).required()
+    # A task's heading, and the first JSON string after it: its message, or that of its error.
     pattern = r'^TASK \[(\w+)\] \*+\n.*?"msg": ("(?:[^"\\]|\\.)*")'
     found = re.findall(pattern, result.stdout.decode(), re.MULTILINE | re.DOTALL)
     return {name: json.loads(message) for name, message in found}
@@ -122,7 +129,7 @@ def test_the_condition_of_the_recipe_skips_locked_accounts(
 
 
 @pytest.mark.parametrize(
-    ("task", "password", "front"),
+    ("task", "password", "beginning"),
     [
         pytest.param("new", "pässword", "$6$rounds=6000$", id="a new password"),
         pytest.param("renewed", "password", "$6$rounds=656000$", id="an outdated hash"),
@@ -132,10 +139,10 @@ def test_the_condition_of_the_recipe_skips_locked_accounts(
     ],
 )
 def test_a_new_hash_is_made_for(
-    messages: dict[str, str], task: str, password: str, front: str
+    messages: dict[str, str], task: str, password: str, beginning: str
 ) -> None:
     stored = messages[task]
-    assert stored.startswith(front) and mkpasswd.login(password, field=stored)
+    assert stored.startswith(beginning) and mkpasswd.login(password, field=stored)
 
 
 @pytest.mark.parametrize("task", ["longest", "longest_kept"])

@@ -9,6 +9,7 @@ from typing import Any
 
 import pytest
 from support.package import crypt, error_of, class_raised, package_under_test
+from support.passwords import LONGEST, TOO_LONG
 from support.stored_strings import COSTLY, MD5, SHA512
 
 with package_under_test():
@@ -39,7 +40,7 @@ WITH_FIELD = [
     Call("cost(.., 8)", lambda field: cost(field, 8)),
 ]
 A_NUMBER: Any = 0
-# These also accept None, and the last one also accepts an empty setting.
+# These also accept None, and crypt an empty setting too. So both become a number.
 WITH_FIELD_OR_NONE = [
     Call("setting(..)", lambda salt: Policy().setting(A_NUMBER if salt is None else salt)),
     Call("describe(..)", lambda field: describe(A_NUMBER if field is None else field)),
@@ -176,9 +177,9 @@ def test_a_cost_that_scrypt_does_not_have_is_refused_by_its_argument(rounds: int
         pytest.param("\0", "password has a zero byte", id="a zero byte alone"),
         pytest.param("pass\ud800word", "password has a lone surrogate", id="the first surrogate"),
         pytest.param("\udfff", "password has a lone surrogate", id="the last surrogate"),
-        pytest.param("x" * 1025, "password too long", id="1025 bytes"),
+        pytest.param(TOO_LONG, "password too long", id="1025 bytes"),
         pytest.param("é" * 513, "password too long", id="1026 bytes of 513 characters"),
-        pytest.param(b"x" * 1025, "password too long", id="1025 bytes in bytes"),
+        pytest.param(TOO_LONG.encode(), "password too long", id="1025 bytes in bytes"),
         pytest.param("x" * 2000 + "\0", "password too long", id="too long with a zero byte"),
     ],
 )
@@ -193,7 +194,7 @@ def test_a_password_that_no_hash_can_have_is_refused(
 @pytest.mark.parametrize(
     "password",
     [
-        pytest.param("x" * 1024, id="1024 bytes"),
+        pytest.param(LONGEST, id="1024 bytes"),
         pytest.param("é" * 512, id="1024 bytes of 512 characters"),
         pytest.param(b"\xff" * 1024, id="bytes of no encoding"),
         pytest.param("\ud7ff\ue000", id="the characters next to the surrogates"),

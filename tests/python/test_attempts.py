@@ -14,6 +14,11 @@ from support.process import run
 HOME = "203.0.113.7"
 ELSEWHERE = "198.51.100.1"
 SECRET = b"secret"
+# How many attempts within an hour the document's code lets go on.
+MOST_FOR_NAME = 10
+MOST_FROM_NETWORK = 100
+# Which of one attempt too many for a name may go on.
+ALL_BUT_THE_LAST = [True] * MOST_FOR_NAME + [False]
 
 
 @pytest.fixture(name="names")
@@ -40,16 +45,17 @@ def attempts(
 def test_ten_attempts_for_a_name_may_go_on(
     names: dict[str, Any], database: sqlite3.Connection
 ) -> None:
-    addresses = [f"203.0.113.{number}" for number in range(11)]
-    assert attempts(names, database, "ann", *addresses) == [True] * 10 + [False]
+    addresses = [f"203.0.113.{number}" for number in range(MOST_FOR_NAME + 1)]
+    assert attempts(names, database, "ann", *addresses) == ALL_BUT_THE_LAST
     assert attempts(names, database, "bob", HOME) == [True]
 
 
 def test_a_hundred_attempts_from_a_network_may_go_on(
     names: dict[str, Any], database: sqlite3.Connection
 ) -> None:
-    begun = [attempts(names, database, f"user {number}", HOME) for number in range(101)]
-    assert begun == [[True]] * 100 + [[False]]
+    users = [f"user {number}" for number in range(MOST_FROM_NETWORK + 1)]
+    begun = [attempts(names, database, user, HOME) for user in users]
+    assert begun == [[True]] * MOST_FROM_NETWORK + [[False]]
     assert attempts(names, database, "ann", ELSEWHERE) == [True]
 
 
@@ -85,15 +91,17 @@ def test_a_user_has_attempts_of_her_own_where_she_has_logged_in(
 ) -> None:
     names["remember_network"](database, "ann", HOME)
     names["remember_network"](database, "ann", HOME)
-    assert attempts(names, database, "ann", *[ELSEWHERE] * 11) == [True] * 10 + [False]
-    assert attempts(names, database, "ann", *[HOME] * 11) == [True] * 10 + [False]
+    for address in (ELSEWHERE, HOME):
+        addresses = [address] * (MOST_FOR_NAME + 1)
+        assert attempts(names, database, "ann", *addresses) == ALL_BUT_THE_LAST
     assert attempts(names, database, "bob", HOME) == [True]
 
 
 def test_an_attempt_that_is_forgotten_does_not_count(
     names: dict[str, Any], database: sqlite3.Connection
 ) -> None:
-    assert attempts(names, database, "ann", *[HOME] * 9) == [True] * 9
+    all_but_one = MOST_FOR_NAME - 1
+    assert attempts(names, database, "ann", *[HOME] * all_but_one) == [True] * all_but_one
     for _ in range(3):
         attempt = names["begin_attempt"](database, "ann", HOME)
         assert attempt is not None
@@ -102,11 +110,13 @@ def test_an_attempt_that_is_forgotten_does_not_count(
 
 
 def test_attempts_count_for_an_hour(names: dict[str, Any], database: sqlite3.Connection) -> None:
-    assert attempts(names, database, "ann", *[HOME] * 11) == [True] * 10 + [False]
-    database.execute("UPDATE attempts SET time = time - 3500")
+    addresses = [HOME] * (MOST_FOR_NAME + 1)
+    assert attempts(names, database, "ann", *addresses) == ALL_BUT_THE_LAST
+    for_most_of_an_hour, for_the_rest = 3500, 101
+    database.execute("UPDATE attempts SET time = time - ?", (for_most_of_an_hour,))
     database.commit()
     assert attempts(names, database, "ann", HOME) == [False]
-    database.execute("UPDATE attempts SET time = time - 101")
+    database.execute("UPDATE attempts SET time = time - ?", (for_the_rest,))
     database.commit()
     assert attempts(names, database, "ann", HOME) == [True]
     assert database.execute("SELECT count(*) FROM attempts").fetchone() == (1,)
@@ -119,9 +129,11 @@ def test_no_name_that_was_typed_is_stored(
     assert "my password" not in "\n".join(database.iterdump())
 
 
-PROCESS = """
+PROCESSES = 4
+ATTEMPTS_OF_PROCESS = 5
+PROCESS = f"""
 import sqlite3
-for _ in range(5):
+for _ in range({ATTEMPTS_OF_PROCESS}):
     database = sqlite3.connect("users.db", timeout=60)
     print(begin_attempt(database, "ann", "203.0.113.7") is not None)
 """
@@ -129,12 +141,13 @@ for _ in range(5):
 
 @pytest.mark.usefixtures("database")
 def test_processes_share_the_limit(tmp_path: Path) -> None:
-    """Four processes begin twenty attempts at once, and ten of these may go on."""
+    """They begin twenty attempts at once, of which as many may go on as for one process."""
     code = f"SECRET = {SECRET!r}\n" + recipe("limit attempts") + PROCESS
-    with ThreadPoolExecutor(4) as threads:
-        results = list(threads.map(lambda _: run_python(code, cwd=tmp_path).required(), range(4)))
-    lines = b"".join(result.stdout for result in results).split()
-    assert (lines.count(b"True"), lines.count(b"False")) == (10, 10)
+    with ThreadPoolExecutor(PROCESSES) as threads:
+        runs = [threads.submit(run_python, code, cwd=tmp_path) for _ in range(PROCESSES)]
+    lines = b"".join(each.result().required().stdout for each in runs).split()
+    refused = PROCESSES * ATTEMPTS_OF_PROCESS - MOST_FOR_NAME
+    assert sorted(lines) == [b"False"] * refused + [b"True"] * MOST_FOR_NAME
 
 
 def test_a_secret_is_made_for_its_owner_alone(tmp_path: Path) -> None:

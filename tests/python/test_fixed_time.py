@@ -14,6 +14,7 @@ from typing import Any, NoReturn
 
 import pytest
 from support.package import crypt, error_of, run_python, package_under_test
+from support.passwords import TOO_LONG
 from support.stored_strings import COSTLY, MD5, SHA512
 
 with package_under_test():
@@ -26,6 +27,9 @@ pytestmark = pytest.mark.xdist_group("fixed time")
 ATTEMPTS = 100
 QUICK = Policy(rounds=1000)
 LONGEST_WAIT = 60  # seconds to wait for what should come at once
+SECONDS = 0.3  # until a failure is answered
+IN_TIME = 0.005  # seconds after its moment, at which an answer still counts as in time
+IN_TIME_AFTER_SLEEP = 0.01  # for a login that sleeps, since a sleep can end late too
 
 
 def raise_an_error() -> NoReturn:
@@ -52,46 +56,40 @@ WAYS = pytest.mark.parametrize("wait", [by_threads, by_asyncio], ids=["threads",
 # ---- The moment of an answer
 
 FAILURES = [
-    pytest.param(QUICK.login, ("passw0rd",), MD5, id="another password"),
-    pytest.param(QUICK.login, ("passw0rd",), SHA512, id="another method"),
-    pytest.param(QUICK.login, ("password",), None, id="an unknown name"),
-    pytest.param(QUICK.login, ("password",), "!" + MD5, id="a lock"),
-    pytest.param(QUICK.login, ("password",), MD5[:-1], id="a hash that was cut"),
-    pytest.param(Policy("md5crypt").login, ("password",), COSTLY, id="a costly hash"),
-    pytest.param(QUICK.login, ("password",), "$y$j9T$salt$x", id="another scheme"),
-    pytest.param(QUICK.login, ("x" * 1025,), MD5, id="a password that is too long"),
+    pytest.param(QUICK.login, "passw0rd", MD5, id="another password"),
+    pytest.param(QUICK.login, "passw0rd", SHA512, id="another method"),
+    pytest.param(QUICK.login, "password", None, id="an unknown name"),
+    pytest.param(QUICK.login, "password", "!" + MD5, id="a lock"),
+    pytest.param(QUICK.login, "password", MD5[:-1], id="a hash that was cut"),
+    pytest.param(Policy("md5crypt").login, "password", COSTLY, id="a costly hash"),
+    pytest.param(QUICK.login, "password", "$y$j9T$salt$x", id="another scheme"),
+    pytest.param(QUICK.login, TOO_LONG, MD5, id="a password that is too long"),
 ]
-
-
-def seconds_beyond(logins: FixedTime, moment: float, wait: Any, *arguments: Any) -> float:
-    """Returns when a login is refused: how many seconds after it began, less `moment`."""
-    began = time.monotonic()
-    login, password, field = arguments
-    assert wait(logins, login, *password, field=field) is False
-    return time.monotonic() - began - moment
 
 
 @WAYS
 @pytest.mark.parametrize(("login", "password", "field"), FAILURES)
 def test_failures_of_all_kinds_are_answered_at_the_same_moment(
-    wait: Any, login: Any, password: tuple[str], field: str | None
+    wait: Any, login: Any, password: str, field: str | None
 ) -> None:
-    logins = FixedTime(seconds=0.3, threads=1, queued=1, failed=10)
+    logins = FixedTime(seconds=SECONDS, threads=1, queued=1, failed=10)
     lateness = []
     for _ in range(ATTEMPTS):
-        lateness.append(seconds_beyond(logins, 0.3, wait, login, password, field))
-        if lateness[-1] <= 0.005:
+        began = time.monotonic()
+        assert wait(logins, login, password, field=field) is False
+        lateness.append(time.monotonic() - began - SECONDS)
+        if lateness[-1] <= IN_TIME:
             break
-    assert 0 <= min(lateness) <= 0.005, lateness
+    assert 0 <= min(lateness) <= IN_TIME, lateness
 
 
 @WAYS
 def test_an_error_is_raised_at_that_moment_too(wait: Any) -> None:
     """Otherwise an error, for example of the database, could show that the name exists."""
-    logins = FixedTime(seconds=0.3, threads=1, queued=1, failed=10)
+    logins = FixedTime(seconds=SECONDS, threads=1, queued=1, failed=10)
     began = time.monotonic()
     error = error_of(wait, logins, raise_an_error)
-    assert time.monotonic() - began >= 0.3
+    assert time.monotonic() - began >= SECONDS
     assert isinstance(error, RuntimeError) and str(error) == "the database is down"
 
 
@@ -129,9 +127,9 @@ def test_a_failure_that_takes_longer_is_answered_at_a_multiple_of_the_time(
         began = time.monotonic()
         assert logins.submit(be_slow).result(LONGEST_WAIT) is False
         lateness.append(time.monotonic() - began - answered)
-        if lateness[-1] <= 0.01:
+        if lateness[-1] <= IN_TIME_AFTER_SLEEP:
             break
-    assert 0 <= min(lateness) <= 0.01, lateness
+    assert 0 <= min(lateness) <= IN_TIME_AFTER_SLEEP, lateness
 
 
 SECONDS_OF_ONE = 0.1
@@ -144,14 +142,23 @@ def be_wrong() -> bool:
 
 
 @pytest.mark.parametrize(
-    ("threads", "queued", "times"),
-    [(2, 0, 1), (2, 1, 2), (2, 2, 2), (2, 3, 3), (1, 3, 4)],
+    ("threads", "queued", "logins_of_a_thread"),
+    [
+        pytest.param(2, 0, 1, id="two threads, nothing queued"),
+        pytest.param(2, 1, 2, id="two threads, one queued"),
+        pytest.param(2, 2, 2, id="two threads, two queued"),
+        pytest.param(2, 3, 3, id="two threads, three queued"),
+        pytest.param(1, 3, 4, id="one thread, three queued"),
+    ],
 )
 def test_a_full_queue_is_in_time_if_its_seconds_follow_the_rule(
-    threads: int, queued: int, times: int
+    threads: int, queued: int, logins_of_a_thread: int
 ) -> None:
-    """Starts as many logins at once as the queue allows."""
-    seconds = times * SECONDS_OF_ONE + 0.05
+    """Starts as many logins at once as the queue allows.
+
+    A thread runs its logins one after another, and the answers must come after the last of them.
+    """
+    seconds = logins_of_a_thread * SECONDS_OF_ONE + 0.05
     logins = FixedTime(seconds=seconds, threads=threads, queued=queued, failed=10)
     lateness = []
     for _ in range(ATTEMPTS):
@@ -159,9 +166,9 @@ def test_a_full_queue_is_in_time_if_its_seconds_follow_the_rule(
         answers = [logins.submit(be_wrong) for _ in range(threads + queued)]
         assert [answer.result(LONGEST_WAIT) for answer in answers] == [False] * len(answers)
         lateness.append(time.monotonic() - began - seconds)
-        if lateness[-1] <= 0.01:
+        if lateness[-1] <= IN_TIME_AFTER_SLEEP:
             break
-    assert 0 <= min(lateness) <= 0.01, lateness
+    assert 0 <= min(lateness) <= IN_TIME_AFTER_SLEEP, lateness
 
 
 @pytest.mark.parametrize("seconds", [-1, float("nan"), float("inf")], ids=repr)
@@ -174,6 +181,7 @@ def test_impossible_seconds_are_refused(seconds: float) -> None:
 
 FAILED = 100
 SLOW = Policy(rounds=50_000)
+MOST_AS_LONG = 1.2  # a ratio of times that counts as equal
 
 
 @pytest.fixture(scope="module", name="stored")
@@ -210,10 +218,10 @@ def test_a_right_login_takes_no_longer_while_a_hundred_failures_wait(
     for _ in range(ATTEMPTS):
         of_one = least_seconds(wait, alone, stored)
         ratios.append(least_seconds(wait, beside_failures, stored) / of_one)
-        if ratios[-1] <= 1.2:
+        if ratios[-1] <= MOST_AS_LONG:
             break
     assert not any(answer.done() for answer in answers)
-    assert min(ratios) <= 1.2, ratios
+    assert min(ratios) <= MOST_AS_LONG, ratios
 
 
 def test_failures_that_wait_take_no_thread() -> None:
@@ -323,7 +331,7 @@ def test_a_login_takes_no_place_in_the_queue_if_no_thread_can_start(
                 assert str(error) == "can't start new thread"
 
     refuse_two()  # the thread that answers failures doesn't start
-    first = logins.submit(may_go_on.wait, LONGEST_WAIT)
+    first = logins.submit(may_go_on.wait, LONGEST_WAIT)  # it occupies one thread
     refuse_two()  # the second thread for logins doesn't start
     second = logins.submit(QUICK.login, "password", field=MD5)
     may_go_on.set()

@@ -19,6 +19,7 @@ from support.package import (
     replace_lines,
     whole_login,
 )
+from support.passwords import TOO_COSTLY, TOO_LONG
 from support.stored_strings import COSTLY, MD5, title
 
 with package_under_test():
@@ -31,7 +32,7 @@ ADDRESS = "203.0.113.7"
 ELSEWHERE = "198.51.100.1"
 # All passwords are "password".
 USERS = {"ann": MD5, "zoe": MD5, "bob": "!" + MD5, "eve": COSTLY}
-CANNOT_BE_USED = ["", "x\0", "x" * 169, "x" * 1025]
+CANNOT_BE_USED = ["", "x\0", TOO_COSTLY, TOO_LONG]
 
 
 @dataclass(frozen=True)
@@ -166,7 +167,7 @@ def test_the_right_password_opens_a_session(service: Service) -> None:
 
 
 @pytest.mark.parametrize("name", ["ann", "bob", "eve", "nobody"])
-@pytest.mark.parametrize("password", ["passw0rd", "", "x\0", "x" * 1025], ids=title)
+@pytest.mark.parametrize("password", ["passw0rd", "", "x\0", TOO_LONG], ids=title)
 def test_a_wrong_password_opens_no_session(service: Service, name: str, password: str) -> None:
     client = service.client()
     assert client.log_in(name, password) == 403
@@ -270,7 +271,7 @@ def test_nobody_changes_a_password_without_a_session(service: Service) -> None:
     assert service.fields() == USERS
 
 
-@pytest.mark.parametrize("old", ["passw0rd", "", "x\0", "x" * 1025], ids=title)
+@pytest.mark.parametrize("old", ["passw0rd", "", "x\0", TOO_LONG], ids=title)
 def test_a_wrong_old_password_changes_nothing(service: Service, old: str) -> None:
     client = service.client()
     assert client.log_in("ann") == 200

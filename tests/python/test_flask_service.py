@@ -25,6 +25,7 @@ from support.package import (
     package_under_test,
     whole_login_of_a_moving_service,
 )
+from support.passwords import TOO_LONG
 
 with package_under_test():
     from mkpasswd.fixed_time import FixedTime
@@ -37,7 +38,8 @@ pytestmark = [
 
 RECOMMENDED = "$6$rounds=656000$"
 SECONDS = 2  # until a failure is answered, instead of the document's 9
-LATE = 0.1  # seconds
+IN_TIME = 0.1  # seconds after its moment, at which an answer still counts as in time
+THREADS, QUEUED = 4, 4  # of the document's FixedTime
 ATTEMPTS = 10
 LONGEST_WAIT = 60  # seconds to wait for what should come soon
 ADDRESS = "203.0.113.7"
@@ -130,9 +132,9 @@ def test_all_users_log_in_and_outdated_hashes_are_renewed(service: Service) -> N
         statuses = list(threads.map(service.post, USERS, map(password_of, USERS)))
     assert statuses == [200] * len(USERS)
     before, fields = fields_before(), service.fields()
-    kept = {name: field for name, field in fields.items() if field == before[name]}
-    assert set(kept) == {"current", *LOCKED}
-    for name in set(fields) - set(kept):
+    unchanged = {name for name, field in fields.items() if field == before[name]}
+    assert unchanged == {"current", *LOCKED}
+    for name in set(fields) - unchanged:
         assert fields[name].startswith(RECOMMENDED)
         assert fields[name] == crypt(password_of(name), fields[name])
 
@@ -157,7 +159,7 @@ def test_a_renewed_hash_matches_only_its_password_and_is_kept(service: Service) 
         pytest.param("nobody", password_of("nobody"), id="an unknown name"),
         pytest.param("", "", id="nothing"),
         pytest.param("current", "", id="no password"),
-        pytest.param("outdated", "x" * 1025, id="too long"),
+        pytest.param("outdated", TOO_LONG, id="too long"),
         pytest.param("bcrypt", password_of("bcrypt") + "\0", id="a zero byte"),
         pytest.param("pbkdf2", password_of("current"), id="another user's"),
     ],
@@ -173,16 +175,16 @@ def test_all_failures_are_answered_at_the_same_moment_and_change_nothing(
         assert elapsed >= SECONDS
         # A login that takes longer, as on a busy machine, is answered at a multiple of the time.
         lateness.append(elapsed % SECONDS)
-        if lateness[-1] <= LATE:
+        if lateness[-1] <= IN_TIME:
             break
-    assert min(lateness) <= LATE, lateness
+    assert min(lateness) <= IN_TIME, lateness
     assert service.fields() == fields_before()
 
 
 def test_an_overloaded_service_asks_to_try_again(service: Service) -> None:
     may_go_on = threading.Event()
     logins: FixedTime = service.names["logins"]
-    others = [logins.submit(may_go_on.wait, LONGEST_WAIT) for _ in range(8)]
+    others = [logins.submit(may_go_on.wait, LONGEST_WAIT) for _ in range(THREADS + QUEUED)]
     assert service.post("current", password_of("current")) == 503
     may_go_on.set()
     assert all(other.result(LONGEST_WAIT) for other in others)

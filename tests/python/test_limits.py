@@ -41,7 +41,7 @@ def longest_within(policy: Policy) -> int | None:
 
 
 def test_the_limit_and_the_longest_password_follow_the_formulas() -> None:
-    for policy in random_policies(7, POLICIES):
+    for policy in random_policies(seed=7, count=POLICIES):
         if policy.method not in METHODS or policy.error:
             continue
         numbers = _library.Numbers(policy.method, policy.rounds, policy.budget)
@@ -53,7 +53,7 @@ def test_the_limit_and_the_longest_password_follow_the_formulas() -> None:
 
 @pytest.mark.parametrize("seed", range(3))
 def test_a_policy_refuses_exactly_the_rounds_that_no_new_hash_has(seed: int) -> None:
-    for policy in random_policies(seed, 1000):
+    for policy in random_policies(seed, count=1000):
         if policy.method not in METHODS:
             continue
         arguments = (NAMES[policy.method], policy.rounds)

@@ -5,6 +5,7 @@ from typing import Any
 
 import pytest
 from support.package import crypt, class_raised, package_under_test
+from support.passwords import LONGEST, TOO_COSTLY, TOO_LONG
 from support.stored_strings import COSTLY, MD5, NEVER_OPEN, SHA512, title
 
 with package_under_test():
@@ -28,22 +29,23 @@ LOGINS = [
     pytest.param("$6$rounds=3000$salt", Policy(), "$6$rounds=656000$", id="fewer than recommended"),
     pytest.param("$7$BU..../....salt", Policy("scrypt"), "$7$CU", id="a lower scrypt cost"),
 ]
+# The first two columns of LOGINS.
 STORED = pytest.mark.parametrize(
     ("setting", "policy"), [pytest.param(*row.values[:2], id=row.id) for row in LOGINS]
 )
 
 
-@pytest.mark.parametrize(("setting", "policy", "front"), LOGINS)
+@pytest.mark.parametrize(("setting", "policy", "beginning"), LOGINS)
 @pytest.mark.parametrize("form", [str, str.encode], ids=["str", "bytes"])
 def test_the_right_password_is_accepted_and_an_outdated_hash_renewed(
-    setting: str, policy: Policy, front: str | None, form: Any
+    setting: str, policy: Policy, beginning: str | None, form: Any
 ) -> None:
     stored = crypt("pässword", setting)
     assert policy.login("pässword", field=form(stored)) is True
-    assert policy.needs_rehash(form(stored)) is (front is not None)
-    if front is not None:
+    assert policy.needs_rehash(form(stored)) is (beginning is not None)
+    if beginning is not None:
         new = policy.hash("pässword")
-        assert new.startswith(front) and new == crypt("pässword", new)
+        assert new.startswith(beginning) and new == crypt("pässword", new)
         assert policy.login("pässword", field=new) is True and not policy.needs_rehash(new)
 
 
@@ -77,10 +79,10 @@ def test_a_field_without_a_match_returns_false(field: str | None) -> None:
         pytest.param(b"\0", id="a zero byte in bytes"),
         pytest.param("\ud800", id="a lone surrogate"),
         pytest.param(b"\xff", id="no UTF-8"),
-        pytest.param("x" * 1025, id="1025 bytes"),
+        pytest.param(TOO_LONG, id="1025 bytes"),
         pytest.param("\u00e9" * 513, id="1026 bytes of 513 characters"),
         pytest.param("x" * 10**6, id="a million bytes"),
-        pytest.param("x" * 1024, id="1024 bytes"),
+        pytest.param(LONGEST, id="1024 bytes"),
         pytest.param(MD5, id="a hash"),
         pytest.param("!", id="a lock"),
     ],
@@ -125,7 +127,7 @@ def test_a_hash_that_costs_up_to_the_budget_matches_by_a_policy_that_costs_as_mu
 
 
 def test_a_login_succeeds_even_if_a_new_hash_would_cost_too_much() -> None:
-    policy, password = Policy(budget=150_000_000), "x" * 83
+    policy, password = Policy(budget=150_000_000), "x" * 83  # one byte too long for a new hash
     assert policy.login(password, field=crypt(password, "$1$salt")) is True
     assert class_raised(policy.hash, password) is mkpasswd.TooCostly
 
@@ -172,15 +174,15 @@ def test_a_login_does_the_same_work_for_every_name(works: list[Any], policy: Pol
     [
         pytest.param("x\0", id="a zero byte"),
         pytest.param("\ud800", id="a lone surrogate"),
-        pytest.param("x" * 1025, id="too long"),
-        pytest.param("x" * 169, id="too costly"),
+        pytest.param(TOO_LONG, id="too long"),
+        pytest.param(TOO_COSTLY, id="too costly"),
     ],
 )
 @pytest.mark.parametrize(
     "field",
     [
         pytest.param("$6$rounds=656000$saltsaltsaltsalt$" + "x" * 86, id="a recommended hash"),
-        pytest.param(crypt("x" * 169, "$1$salt"), id="a cheap hash"),
+        pytest.param(crypt(TOO_COSTLY, "$1$salt"), id="a cheap hash"),
         pytest.param(None, id="no hash"),
         pytest.param("!", id="a lock"),
     ],

@@ -17,6 +17,8 @@ with package_under_test():
     from mkpasswd import _calls, _library, _loaded, _policy, crypt
 
 HEADER = (ROOT / "c/mkpasswd.h").read_text(encoding="ascii")
+# The size of struct mkpasswd_report: eight numbers of 32 bits and six of 64.
+BYTES_OF_REPORT = 8 * 4 + 6 * 8
 
 
 # ---- The header's numbers
@@ -39,8 +41,10 @@ def test_the_recommended_rounds_are_those_of_new_salts() -> None:
 
 def test_the_reasons_are_the_headers() -> None:
     """Their names, numbers and messages agree."""
+    # `/* bad rounds: an explanation */`, and in the next line `MKPASSWD_ERROR_BAD_ROUNDS = 6`
     pattern = r"/\* ([a-z ]+?)(?:: .*)? \*/\n +MKPASSWD_ERROR_(\w+) = (\d+)"
-    expected = {(name, int(number), words) for words, name, number in re.findall(pattern, HEADER)}
+    found = re.findall(pattern, HEADER)
+    expected = {(name, int(number), message) for message, name, number in found}
     assert expected
     assert {(each.name, each.value, each.message) for each in mkpasswd.Reason} == expected
 
@@ -55,7 +59,8 @@ def test_the_fields_of_a_report_are_the_headers() -> None:
     assert found
     names = re.findall(r"^    (?:\w+_t|struct \w+) (\w+);", found[1], re.MULTILINE)
     fields: list[tuple[str, object]] = getattr(_library.Report, "_fields_")
-    assert [name for name, *_ in fields] == names and ctypes.sizeof(_library.Report) == 80
+    assert [name for name, *_ in fields] == names
+    assert ctypes.sizeof(_library.Report) == BYTES_OF_REPORT
 
 
 def test_the_package_has_the_version_of_the_repository() -> None:
@@ -67,16 +72,16 @@ def test_the_package_has_the_version_of_the_repository() -> None:
 
 
 @pytest.mark.parametrize(
-    ("module", "least"),
+    ("module", "fewest_examples"),
     [
         pytest.param(mkpasswd, 4, id="mkpasswd"),
         pytest.param(_policy, 15, id="its calls"),
         pytest.param(crypt, 3, id="mkpasswd.crypt"),
     ],
 )
-def test_the_examples_of_a_module_are_right(module: ModuleType, least: int) -> None:
+def test_the_examples_of_a_module_are_right(module: ModuleType, fewest_examples: int) -> None:
     result = doctest.testmod(module, extraglobs={"mkpasswd": mkpasswd})
-    assert result.failed == 0 and result.attempted >= least
+    assert result.failed == 0 and result.attempted >= fewest_examples
 
 
 # ---- Types

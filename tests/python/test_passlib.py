@@ -15,6 +15,7 @@ from support.package import (
     recipe,
     whole_login,
 )
+from support.passwords import LONGEST_BY_DEFAULT, TOO_COSTLY, TOO_LONG
 from support.stored_strings import MD5, SHA256, SHA512, title
 
 with package_under_test():
@@ -25,11 +26,11 @@ pytestmark = [
     pytest.mark.filterwarnings("ignore::DeprecationWarning"),
 ]
 
-FRONT = "$6$rounds=656000$"
+RECOMMENDED = "$6$rounds=656000$"
 # A hash that costs more than the budgets of the recipes.
 BEYOND = "$6$rounds=20000000$saltstring$" + "x" * 86
 # These passwords can't be hashed. passlib itself has a limit of 4,096 characters.
-IMPOSSIBLE = ["x" * 1025, "x" * 5000, "x\0", "\ud800"]
+IMPOSSIBLE = [TOO_LONG, "x" * 5000, "x\0", "\ud800"]
 IMPOSSIBLE_IDS = ["1025 bytes", "5000 bytes", "a zero byte", "a lone surrogate"]
 NAMES = ["md5_crypt", "sha256_crypt", "sha512_crypt"]
 NO_BUDGET = 2**42  # more than any hash costs
@@ -63,7 +64,7 @@ def fixture_stored(context: Any) -> str:
 @pytest.fixture(scope="module", name="of_168")
 def fixture_of_168(context: Any) -> str:
     """A new hash of the longest password."""
-    return str(context.hash("x" * 168))
+    return str(context.hash(LONGEST_BY_DEFAULT))
 
 
 # ---- The recipe
@@ -87,12 +88,13 @@ def fixture_service(cook: Cook) -> dict[str, Any]:
 
 
 def field_of_ann(users: sqlite3.Connection) -> Any:
-    """Returns what is stored for her."""
-    return users.execute("SELECT hash FROM users").fetchone()[0]
+    """Returns the field of the only user."""
+    (field,) = users.execute("SELECT hash FROM users").fetchone()
+    return field
 
 
 def store(users: sqlite3.Connection, field: str) -> None:
-    """Stores another field for her."""
+    """Stores another field for the only user."""
     users.execute("UPDATE users SET hash = ?", (field,))
 
 
@@ -108,7 +110,7 @@ def test_a_login_by_passlib_accepts_the_right_password_and_renews_the_hash(
     assert field_of_ann(database) == MD5
     assert log_in(service, database, "ann", "password") is True
     stored = field_of_ann(database)
-    assert stored.startswith(FRONT) and stored == crypt("password", stored)
+    assert stored.startswith(RECOMMENDED) and stored == crypt("password", stored)
     assert log_in(service, database, "ann", "password") is True
     assert field_of_ann(database) == stored
 
@@ -135,7 +137,7 @@ def test_a_login_by_passlib_refuses_an_unknown_name(
     [
         pytest.param("!" + MD5, False, id="a lock"),
         pytest.param(crypt("another one", "$1$salt"), False, id="another password"),
-        pytest.param(crypt("password", f"{FRONT}salt"), True, id="the same password"),
+        pytest.param(crypt("password", f"{RECOMMENDED}salt"), True, id="the same password"),
     ],
 )
 def test_a_login_by_passlib_answers_by_what_is_stored_when_it_ends(
@@ -159,7 +161,7 @@ def test_a_login_by_passlib_answers_by_what_is_stored_when_it_ends(
 
 
 def test_a_new_hash_is_libxcrypts_with_the_recommended_rounds(stored: str) -> None:
-    assert stored.startswith(FRONT) and stored == crypt("pässword", stored)
+    assert stored.startswith(RECOMMENDED) and stored == crypt("pässword", stored)
 
 
 def test_only_the_right_password_is_accepted(context: Any, stored: str) -> None:
@@ -172,7 +174,7 @@ def test_a_current_hash_is_kept(context: Any, stored: str) -> None:
 
 def test_an_outdated_hash_is_renewed(context: Any) -> None:
     matches, new = context.verify_and_update("password", MD5)
-    assert matches and new.startswith(FRONT) and new == crypt("password", new)
+    assert matches and new.startswith(RECOMMENDED) and new == crypt("password", new)
 
 
 def test_a_wrong_password_renews_nothing(context: Any) -> None:
@@ -184,14 +186,14 @@ def test_a_hash_above_the_budget_lets_nobody_in(context: Any) -> None:
 
 
 def test_168_bytes_are_accepted_and_169_are_not(context: Any, of_168: str) -> None:
-    assert context.verify("x" * 168, of_168) and not context.verify("x" * 169, of_168)
+    assert context.verify(LONGEST_BY_DEFAULT, of_168) and not context.verify(TOO_COSTLY, of_168)
 
 
 IMPOSSIBLE_PASSWORDS = [
     pytest.param(word, id=name) for word, name in zip(IMPOSSIBLE, IMPOSSIBLE_IDS)
 ]
 REFUSED = pytest.mark.parametrize(
-    "password", [pytest.param("x" * 169, id="169 bytes"), *IMPOSSIBLE_PASSWORDS]
+    "password", [pytest.param(TOO_COSTLY, id="169 bytes"), *IMPOSSIBLE_PASSWORDS]
 )
 
 
@@ -219,7 +221,9 @@ OTHERS = pytest.mark.parametrize(
     [
         pytest.param("pbkdf2_sha256", 1000, id="pbkdf2_sha256"),
         pytest.param("bcrypt", 4, id="bcrypt", marks=pytest.mark.needs("python3-bcrypt")),
-        pytest.param("bcrypt_sha256", 4, id="bcrypt", marks=pytest.mark.needs("python3-bcrypt")),
+        pytest.param(
+            "bcrypt_sha256", 4, id="bcrypt_sha256", marks=pytest.mark.needs("python3-bcrypt")
+        ),
     ],
 )
 
@@ -265,7 +269,7 @@ def test_a_long_password_gets_fewer_rounds(like_recommended: Any) -> None:
 def test_rounds_that_vary_stay_within_the_limit(like_recommended: Any) -> None:
     varied = like_recommended.using(vary_rounds="50%")
     for _ in range(20):
-        assert varied.verify("x" * 168, varied.hash("x" * 168))
+        assert varied.verify(LONGEST_BY_DEFAULT, varied.hash(LONGEST_BY_DEFAULT))
 
 
 def test_a_hash_with_fewer_rounds_is_outdated_unless_its_password_is_long(
@@ -280,9 +284,9 @@ def test_a_hash_with_fewer_rounds_is_outdated_unless_its_password_is_long(
 def test_a_password_that_no_hash_can_have_is_not_renewed(like_recommended: Any) -> None:
     other = importlib.import_module("passlib.hash").pbkdf2_sha256.using(rounds=1000)
     context = context_of(like_recommended, other, deprecated="auto")
-    stored = other.hash("x" * 1025)
-    assert context.verify("x" * 1025, stored)
-    assert class_raised(context.verify_and_update, "x" * 1025, stored) is ValueError
+    stored = other.hash(TOO_LONG)
+    assert context.verify(TOO_LONG, stored)
+    assert class_raised(context.verify_and_update, TOO_LONG, stored) is ValueError
 
 
 # ---- The same work for every name
@@ -334,7 +338,7 @@ def test_a_hash_of_a_handler_is_current_by_the_policy_too(ours: Any, name: str) 
 
 def test_few_rounds_are_renewed(ours: Any) -> None:
     _, new = context_of(ours.sha512_crypt).verify_and_update("Hello world!", SHA512)
-    assert new.startswith(FRONT)
+    assert new.startswith(RECOMMENDED)
 
 
 def test_given_rounds_are_the_minimum(ours: Any) -> None:

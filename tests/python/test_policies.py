@@ -7,6 +7,7 @@ from typing import Any
 
 import pytest
 from support.package import crypt, error_of, class_raised, package_under_test
+from support.passwords import LONGEST, LONGEST_BY_DEFAULT, TOO_COSTLY
 from support.stored_strings import COSTLY, DEAD, LOCKED, MD5, REFUSED, SHA512, title
 
 with package_under_test():
@@ -61,7 +62,7 @@ def test_a_policy_cannot_be_changed(name: str) -> None:
 
 
 @pytest.mark.parametrize(
-    ("policy", "front"),
+    ("policy", "beginning"),
     [
         pytest.param(Policy("md5crypt"), "$1$", id="md5crypt"),
         pytest.param(Policy("md5crypt", 5), "$1$", id="md5crypt, which ignores rounds"),
@@ -76,15 +77,17 @@ def test_a_policy_cannot_be_changed(name: str) -> None:
         pytest.param(Policy("scrypt", 6), "$7$BU..../....", id="scrypt with 6"),
     ],
 )
-def test_a_new_hash_is_libxcrypts_with_a_new_salt(policy: Policy, front: str) -> None:
+def test_a_new_hash_is_libxcrypts_with_a_new_salt(policy: Policy, beginning: str) -> None:
     stored = policy.hash("pässword")
-    assert stored.startswith(front) and stored == crypt("pässword", stored)
+    assert stored.startswith(beginning) and stored == crypt("pässword", stored)
     assert policy.hash("pässword") != stored
 
 
-# A hash by the last policy costs less than 150,000,000, the lowest limit. A hash by the one before
-# it costs more than one by the recommended policy.
-OWN_HASHES = [*map(Policy, METHODS), Policy("scrypt", 9), Policy("sha512crypt", 1000)]
+# A hash by this policy costs more than one by the recommended policy.
+COSTLIER = Policy("scrypt", 9)
+# A hash by this policy costs less than 150,000,000, the lowest limit.
+CHEAPER = Policy("sha512crypt", 1000)
+OWN_HASHES = [*map(Policy, METHODS), COSTLIER, CHEAPER]
 
 
 @pytest.mark.parametrize(
@@ -146,11 +149,31 @@ def test_a_new_hash_above_the_budget_is_an_error() -> None:
 @pytest.mark.parametrize(
     ("policy", "limit"),
     [
-        pytest.param(Policy(), Limit(253_921_472, 168, 656_000), id="sha512crypt"),
-        pytest.param(Policy("sha256crypt"), Limit(211_937_408, 150, 656_000), id="sha256crypt"),
-        pytest.param(Policy("scrypt"), Limit(268_491_592, 1024, 7), id="scrypt"),
-        pytest.param(Policy("md5crypt"), Limit(150_000_000, 1024, 0), id="md5crypt"),
-        pytest.param(Policy(budget=1), Limit(1, 0, 0), id="a budget that admits nothing"),
+        pytest.param(
+            Policy(),
+            Limit(cost=253_921_472, longest_password=168, rounds=656_000),
+            id="sha512crypt",
+        ),
+        pytest.param(
+            Policy("sha256crypt"),
+            Limit(cost=211_937_408, longest_password=150, rounds=656_000),
+            id="sha256crypt",
+        ),
+        pytest.param(
+            Policy("scrypt"),
+            Limit(cost=268_491_592, longest_password=1024, rounds=7),
+            id="scrypt",
+        ),
+        pytest.param(
+            Policy("md5crypt"),
+            Limit(cost=150_000_000, longest_password=1024, rounds=0),
+            id="md5crypt",
+        ),
+        pytest.param(
+            Policy(budget=1),
+            Limit(cost=1, longest_password=0, rounds=0),
+            id="a budget that admits nothing",
+        ),
     ],
 )
 def test_a_limit_is_as_documented(policy: Policy, limit: Limit) -> None:
@@ -178,19 +201,15 @@ def test_a_login_hashes_up_to_the_limit_and_no_more(policy: Policy) -> None:
 
 # ---- Long passwords
 
-LONGEST_WITHIN_LIMIT = "x" * 168
-TOO_LONG = "x" * 169
-LONGEST = "x" * 1024
-
 
 @pytest.fixture(scope="module", name="of_168")
 def fixture_of_168() -> str:
     """A hash of the longest password, by the recommended policy."""
-    return mkpasswd.hash(LONGEST_WITHIN_LIMIT)
+    return mkpasswd.hash(LONGEST_BY_DEFAULT)
 
 
 def test_168_bytes_match_by_the_recommended_policy(of_168: str) -> None:
-    assert mkpasswd.login(LONGEST_WITHIN_LIMIT, field=of_168) is True
+    assert mkpasswd.login(LONGEST_BY_DEFAULT, field=of_168) is True
 
 
 def test_168_other_bytes_do_not_match(of_168: str) -> None:
@@ -198,7 +217,7 @@ def test_168_other_bytes_do_not_match(of_168: str) -> None:
 
 
 def test_169_bytes_are_refused_by_the_recommended_policy() -> None:
-    error = error_of(mkpasswd.hash, TOO_LONG)
+    error = error_of(mkpasswd.hash, TOO_COSTLY)
     assert error.__class__ is TooCostly
     assert str(error) == "over budget: the hash can cost more than 253921472"
 
@@ -279,7 +298,8 @@ def test_a_new_setting_has_the_form_of_a_new_hashs(method: str) -> None:
     policy = Policy(method)
     setting, stored = policy.setting(), policy.hash("password")
     assert len(setting) == len(stored.rpartition("$")[0]) and setting != policy.setting()
-    assert stored.startswith(setting[: len(policy.setting("s")) - 1])
+    before_salt = policy.setting("s").removesuffix("s")
+    assert setting.startswith(before_salt) and stored.startswith(before_salt)
 
 
 @pytest.mark.parametrize(

@@ -30,6 +30,7 @@ from support.package import (
     whole_login,
     whole_login_of_a_moving_service,
 )
+from support.passwords import TOO_COSTLY, TOO_LONG
 from support.process import run
 from support.stored_strings import COSTLY, MD5, SHA512, title
 
@@ -41,7 +42,7 @@ RECOMMENDED = "$6$rounds=656000$"
 LIMIT = 253_921_472  # of the recommended policy, as docs/FORMATS.md works it out
 # A good hash, an empty field, a locked one, one that costs too much, and NULL.
 USERS = {"ann": MD5, "joe": "", "bob": "!" + MD5, "eve": COSTLY, "kim": None}
-WRONG_PASSWORDS = ["passw0rd", "", "x\0", "\ud800", "x" * 1025, MD5, "!"]
+WRONG_PASSWORDS = ["passw0rd", "", "x\0", "\ud800", TOO_LONG, MD5, "!"]
 ADDRESS = "203.0.113.7"
 
 
@@ -138,7 +139,7 @@ def test_a_new_user_gets_a_hash_that_is_kept(
     assert fields_of(database)["zoe"] == stored
 
 
-@pytest.mark.parametrize("password", ["", "x\0", "x" * 169, "x" * 1025], ids=title)
+@pytest.mark.parametrize("password", ["", "x\0", TOO_COSTLY, TOO_LONG], ids=title)
 def test_a_password_that_cannot_be_used_registers_nobody(
     database: sqlite3.Connection, names: dict[str, Any], password: str
 ) -> None:
@@ -153,7 +154,7 @@ def test_a_password_that_cannot_be_used_registers_nobody(
         pytest.param("pässword", None, id="none"),
         pytest.param("ä" * 84, None, id="168 bytes"),
         pytest.param("ä" * 84 + "x", "at most 168 bytes", id="169 bytes"),
-        pytest.param("\ud800" * 57, "at most 168 bytes", id="169 bytes of half characters"),
+        pytest.param("\ud800" * 57, "at most 168 bytes", id="171 bytes of lone surrogates"),
         pytest.param("x\0", "zero byte", id="a zero byte"),
         pytest.param("", "empty", id="an empty password"),
     ],
@@ -228,8 +229,8 @@ class Change:
 
     title: str
     statement: str
-    text: str | None = None  # what is stored for her then, unless it is a hash:
-    password: str | None = None  # the password of the new hash
+    password: str | None = None  # the password of the hash that is stored then, if it is one
+    text: str | None = None  # what is stored otherwise
     expected: bool = False
     logged_name: str | None = "ann"  # if the login fails
 
@@ -238,7 +239,7 @@ class Change:
 
     @property
     def field(self) -> str | None:
-        """What is stored for her then."""
+        """What is stored for the user after the change."""
         return self.text if self.password is None else current_hash(self.password, "salt")
 
     def make(self, users: sqlite3.Connection) -> None:
@@ -249,8 +250,8 @@ class Change:
 SET = "UPDATE users SET hash = :field WHERE name = 'ann'"
 DELETE = "DELETE FROM users WHERE name = 'ann'"
 CHANGES = [
-    Change("a lock", SET, "!" + MD5),
-    Change("an emptied field", SET, ""),
+    Change("a lock", SET, text="!" + MD5),
+    Change("an emptied field", SET, text=""),
     Change("no hash any more", SET, logged_name=None),
     Change("a deletion", DELETE, logged_name=None),
     Change("another password", SET, password="another one"),
@@ -370,7 +371,8 @@ def test_a_login_whose_hash_is_never_the_same_fails_after_three_checks(
 
     monkeypatch.setattr(_library, "login", check_and_change)
     assert login(database, "ann", "password") is False
-    assert fields_of(database)["ann"] == current_hash("password", "c")
+    third_salt = "c"
+    assert fields_of(database)["ann"] == current_hash("password", third_salt)
     messages = [record.getMessage() for record in caplog.records]
     assert messages == [f"login failed: 'ann' from '{ADDRESS}'"]
 
@@ -409,7 +411,7 @@ def test_a_wrong_old_password_changes_nothing(
     assert fields_of(database) == USERS
 
 
-@pytest.mark.parametrize("new", ["", "x\0", "x" * 169, "x" * 1025], ids=title)
+@pytest.mark.parametrize("new", ["", "x\0", TOO_COSTLY, TOO_LONG], ids=title)
 def test_a_new_password_that_cannot_be_used_keeps_the_old_one(
     database: sqlite3.Connection, names: dict[str, Any], new: str
 ) -> None:
@@ -707,7 +709,9 @@ def test_the_longest_password_of_a_costly_hash_is_named(
 ) -> None:
     setting = f"$6$rounds={rounds}$saltstring"
     read = read_setting(setting.encode())
-    longest = max(length for length in range(169) if cost(read, length) <= LIMIT)
+    longest_within_policy = 168
+    lengths = range(longest_within_policy + 1)
+    longest = max(length for length in lengths if cost(read, length) <= LIMIT)
     cook.follow("users whom no login accepts", rows=[("ann", f"{setting}${'x' * 86}")])
     assert capsys.readouterr().out == f"'ann': over budget above {longest} bytes\n"
 

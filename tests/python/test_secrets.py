@@ -19,14 +19,18 @@ CALLS: list[tuple[str, Callable[[Any], object]]] = [
     ("hash", mkpasswd.hash),
     ("crypt", lambda password: crypt(password, MD5)),
 ]
-WRONG: list[tuple[str, Any]] = [
+# Passwords that no hash can have: strings and bytes, and values of other types.
+INVALID: list[tuple[str, Any]] = [
     ("a zero byte", SECRET + "\0"),
     ("a surrogate", SECRET + "\ud800"),
     ("too long", SECRET * 100),
     ("a zero byte in bytes", (SECRET + "\0").encode()),
+]
+OF_OTHER_TYPES: list[tuple[str, Any]] = [
     ("a list", [SECRET]),
     ("a dict", {SECRET: SECRET}),
 ]
+WRONG = [*INVALID, *OF_OTHER_TYPES]
 
 
 def all_of(error: BaseException | None) -> str:
@@ -73,7 +77,7 @@ def test_no_error_about_something_else_shows_the_password(
 @pytest.mark.parametrize(
     ("password", "field"),
     [
-        *(pytest.param(value, MD5, id=name) for name, value in WRONG[:4]),
+        *(pytest.param(value, MD5, id=name) for name, value in INVALID),
         pytest.param(SECRET, MD5, id="another password"),
         pytest.param(SECRET, SECRET, id="a password as the field"),
     ],

@@ -1,4 +1,4 @@
-"""A report that no call has filled: it is all zeros, refuses every login, and is no answer."""
+"""A report of zeros, which no call has filled: it refuses every login, and other calls fail."""
 from __future__ import annotations
 
 import importlib
@@ -8,6 +8,7 @@ from typing import Any
 
 import pytest
 from support.package import error_of, package_under_test
+from support.passwords import LONGEST
 from support.stored_strings import MD5, SHA512
 
 with package_under_test():
@@ -16,7 +17,6 @@ with package_under_test():
     from mkpasswd.crypt import crypt, mksalt
 
 POLICY = Policy(rounds=1000)
-LONG = "x" * 1024
 
 
 @pytest.fixture(name="silent_library")
@@ -32,7 +32,7 @@ def fixture_silent_library(monkeypatch: pytest.MonkeyPatch) -> None:
 
 
 @pytest.mark.usefixtures("silent_library")
-@pytest.mark.parametrize("password", ["password", b"password", "passw0rd", "", LONG])
+@pytest.mark.parametrize("password", ["password", b"password", "passw0rd", "", LONGEST])
 @pytest.mark.parametrize("field", [MD5, MD5.encode(), "", "!", None])
 @pytest.mark.parametrize("login", [mkpasswd.login, POLICY.login], ids=["login", "of a policy"])
 def test_every_login_is_refused(

@@ -19,6 +19,7 @@ from support.release import (
     oldest_glibc,
     pack,
     processor_of_build,
+    version,
 )
 
 pytestmark = pytest.mark.xdist_group("archive")  # so that it is packed once
@@ -36,6 +37,20 @@ def members(archive: Archive) -> list[tarfile.TarInfo]:
 
 
 # ---- Packing
+
+
+@pytest.mark.parametrize(
+    ("argument", "machine"),
+    [
+        pytest.param("CPU=", "x86_64", id="for this machine"),
+        pytest.param("TARGET=aarch64", "aarch64", id="for ARM"),
+    ],
+)
+def test_make_passes_the_name_of_the_archive_to_the_tools(argument: str, machine: str) -> None:
+    rule = '--eval=archive-name: ; @printf %s "$$ARCHIVE"'
+    shown = run("make", "--silent", rule, "archive-name", argument, cwd=ROOT, env={"ARCHIVE": None})
+    name = f"mkpasswd-{version()}-{machine}-linux.tar.gz"
+    assert_result(shown, stdout=name.encode())
 
 
 @pytest.mark.parametrize(
@@ -122,7 +137,8 @@ def test_sha256sum_finds_each_file_as_it_was_packed(archive: Archive) -> None:
 
 def test_each_file_has_a_checksum(archive: Archive) -> None:
     lines = (archive.tree / SUMS).read_text(encoding="utf-8").splitlines()
-    summed = [line[66:] for line in lines if re.match("[0-9a-f]{64}  ", line)]
+    found = [re.fullmatch("[0-9a-f]{64}  (.+)", line) for line in lines]
+    summed = [match[1] for match in found if match]
     files = [name for name in files_below(archive.tree) if not (archive.tree / name).is_symlink()]
     assert sorted(summed) == [name for name in files if name != SUMS]
 
@@ -217,6 +233,7 @@ def test_the_guide_names_the_oldest_glibc_for_the_pam_module(archive: Archive) -
 
 @pytest.mark.needs("objdump")
 def test_the_readme_names_each_function_that_the_static_library_needs(archive: Archive) -> None:
+    # Up to a line that no indented line continues.
     row = r"^  libmkpasswd\.a: +a C library with (.*?)$(?!\n {9})"
     found = re.search(row, archive.readme, re.MULTILINE | re.DOTALL)
     assert found is not None, archive.readme
@@ -231,6 +248,7 @@ def test_each_link_in_the_documents_leads_to_a_file(archive: Archive) -> None:
     dead = []
     documents = list(archive.documents.glob("*.md"))
     for document in documents:
+        # Links to files, without their places: not `](https://..)`, and not `](#builds)`
         links = re.findall(r"\]\((?![a-z]+:)([\w.][^)#]*)", document.read_text(encoding="utf-8"))
         dead += [
             f"{document.name}: {link}" for link in links if not (document.parent / link).exists()

@@ -97,7 +97,7 @@ def test_the_input_that_stops_a_fuzzer_is_kept(tree: MeasuredTree) -> None:
     stops = "mkdir -p build/fuzz/hash.corpus && echo input > build/fuzz/hash.crash-1234; exit 1\n"
     tree.prepare("fuzz.script", stops)
     assert tree.evidence(*FUZZ).status == 1
-    assert tree.kept("fuzz-hash.crash-*") == ["fuzz-hash.crash-1234"]
+    assert tree.saved("fuzz-hash.crash-*") == ["fuzz-hash.crash-1234"]
 
 
 def test_a_part_is_measured_again_only_with_a_larger_size(tree: MeasuredTree) -> None:
@@ -301,7 +301,7 @@ def interrupt(tree: MeasuredTree, number: int, *words: str, targets: tuple[str, 
 def test_an_interrupted_part_leaves_nothing(tree: MeasuredTree, number: int) -> None:
     tree.prepare("soak.script", WAITS)
     assert interrupt(tree, number, *SOAK, targets=("soak",)) == 128 + number
-    assert tree.kept("soak*") == tree.results() == []
+    assert tree.saved("soak*") == tree.results() == []
     wait_for(lambda: not sleeps(tree, "soak"))
 
 
@@ -311,7 +311,7 @@ def test_all_parts_side_by_side_are_interrupted(tree: MeasuredTree) -> None:
     words = (*SOAK, *FUZZ, "--jobs", "2")
     status = interrupt(tree, signal.SIGINT, *words, targets=("soak", "fuzz"))
     assert status == 128 + signal.SIGINT
-    assert tree.kept("*.log*") == tree.results() == []
+    assert tree.saved("*.log*") == tree.results() == []
     wait_for(lambda: not sleeps(tree, "soak") and not sleeps(tree, "fuzz"))
 
 
@@ -358,7 +358,7 @@ def test_leftovers_of_a_killed_run_do_not_disturb_the_next_one(tree: MeasuredTre
     interrupt(tree, signal.SIGKILL, "--only", "gate", targets=("gate",))
     (tree.fakes / "gate.script").unlink()
     wait_for(lambda: tree.evidence("--only", "gate").status == 0)
-    assert tree.kept("gate*") == ["gate.log"]
+    assert tree.saved("gate*") == ["gate.log"]
 
 
 def test_a_second_run_is_refused_while_the_first_one_measures(tree: MeasuredTree) -> None:

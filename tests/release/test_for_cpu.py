@@ -36,7 +36,7 @@ def content(folder: Path) -> dict[str, bytes]:
     return {str(path.relative_to(folder)): path.read_bytes() for path in paths}
 
 
-def got(tree: ToolTree) -> list[str]:
+def recorded(tree: ToolTree) -> list[str]:
     """Returns the folder in which rt ran, and its arguments."""
     return tree.path("rt.got").read_text(encoding="ascii").splitlines()
 
@@ -71,7 +71,7 @@ def test_rt_builds_for_the_processor(
 ) -> None:
     tree.rt_is(BUILDS)
     tree.run("for-cpu", cpu, file).required()
-    assert got(tree) == [crate, arguments]
+    assert recorded(tree) == [crate, arguments]
     assert content(tree.path("build") / cpu) == {file: b"new\n"}
     assert tree.path(f"build/log/{cpu}-{crate}.log").exists()
 
@@ -79,7 +79,7 @@ def test_rt_builds_for_the_processor(
 def test_the_module_for_the_page_is_built_without_an_earlier_build(tree: ToolTree) -> None:
     tree.rt_is(f"{RECORDS}echo new > out/libcrypt_web.a")
     tree.run("for-cpu", "wasm64", "libcrypt_web.a").required()
-    assert got(tree) == ["crypt_web", "lib --target wasm64-unknown-unknown"]
+    assert recorded(tree) == ["crypt_web", "lib --target wasm64-unknown-unknown"]
     assert content(tree.path("build/wasm64")) == {"libcrypt_web.a": b"new\n"}
 
 

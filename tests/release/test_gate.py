@@ -38,6 +38,8 @@ rt: note: bad must-fail edits, as told above: 1. They fail nothing here
 12 passed, 0 failed
 """
 LOG = "build/log/gate.log"
+COLUMNS = 50  # of a terminal
+ERASES_LINE = "\r\033[K"  # how a text replaces the last one at a terminal
 
 
 @pytest.fixture(name="tree")
@@ -53,10 +55,15 @@ def lines_of(result: Result) -> list[str]:
 # ---- Output
 
 
+def subject_of(line: str) -> str:
+    """Returns the beginning of a line, which says what it is about: `must-fail` or a crate."""
+    return re.split("[: ]", line)[0]
+
+
 def test_each_crate_has_a_line_without_a_terminal(tree: ToolTree) -> None:
     tree.rt_prints(PROVED + TRIED)
     result = tree.run("gate").required()
-    subjects = [re.split("[: ]", line)[0] for line in lines_of(result)]
+    subjects = [subject_of(line) for line in lines_of(result)]
     assert subjects == ["prims_core", "kdf_core", "must-fail", "12"], result
     assert result.stdout.endswith(b"\n12 passed, 0 failed\n"), result
 
@@ -69,14 +76,14 @@ def test_each_crate_has_a_line_that_changes_at_a_terminal(tree: ToolTree) -> Non
     environment = tree.full_environment()
     environment.pop("COLUMNS", None)  # newer versions of pytest-xdist set it
     child = pexpect.spawn(
-        str(tree.path("tools/gate")), env=environment, dimensions=(24, 50), timeout=60
+        str(tree.path("tools/gate")), env=environment, dimensions=(24, COLUMNS), timeout=60
     )
     child.expect(pexpect.EOF)
     screen = child.before.decode()
-    texts = [text for line in screen.split("\r\n") for text in line.split("\r\033[K")]
-    assert max(map(len, texts)) < 50, screen
-    lines = [line.rpartition("\033[K")[2] for line in screen.split("\r\n")]
-    subjects = [re.split("[: ]", line)[0] for line in lines]
+    # In a line, each text erases the one before it.
+    texts_by_line = [line.split(ERASES_LINE) for line in screen.split("\r\n")]
+    assert max(len(text) for texts in texts_by_line for text in texts) < COLUMNS, screen
+    subjects = [subject_of(texts[-1]) for texts in texts_by_line]
     assert subjects == ["prims_core", "kdf_core", "must-fail", "12", ""], screen
     assert "kdf_core: 39 functions proved" in screen, screen
 
@@ -96,11 +103,14 @@ def test_bytes_that_are_not_utf_8_are_shown_and_kept(tree: ToolTree) -> None:
     assert tree.path(LOG).read_bytes() == lines
 
 
+SHOWN = 20  # lines of a failed run
+
+
 def test_the_first_lines_that_fail_are_shown(tree: ToolTree) -> None:
     failing = [f"src/lib.rt:{number}:1: error: no proof" for number in range(1, 31)]
     tree.rt_prints("\n".join([*failing, "0 passed, 1 failed"]).encode(), status=1)
     result = tree.run("gate")
-    assert [line for line in lines_of(result) if "error" in line] == failing[:20], result
+    assert [line for line in lines_of(result) if "error" in line] == failing[:SHOWN], result
     assert b"0 passed, 1 failed\n" in result.stdout, result
     assert LOG.encode() in result.stdout, result
 
@@ -109,7 +119,7 @@ def test_the_last_lines_are_shown_if_none_says_what_fails(tree: ToolTree) -> Non
     lines = [f"line {number}" for number in range(1, 31)]
     tree.rt_prints("\n".join(lines).encode(), status=1)
     result = tree.run("gate")
-    assert lines_of(result)[:20] == lines[10:], result
+    assert lines_of(result)[:SHOWN] == lines[-SHOWN:], result
     assert LOG.encode() in result.stdout, result
 
 
@@ -203,14 +213,15 @@ def test_an_rt_that_the_system_cannot_run_is_named(tree: ToolTree) -> None:
 
 # ---- Signals
 
+STATUS_OF_RT = 3
 # A fake rt that records each signal, and ends when the test allows it or its gate is gone.
-RECORDS_SIGNALS = """\
+RECORDS_SIGNALS = f"""\
 for name in INT TERM HUP QUIT TSTP CONT; do
     trap "echo $name >> '$0.signals'" $name
 done
 echo '== prims_core'
 while [ ! -e "$0.may-end" ] && kill -0 $PPID; do sleep 0.05; done
-exit 3
+exit {STATUS_OF_RT}
 """
 
 
@@ -278,7 +289,7 @@ def test_rt_stops_and_continues_with_the_gate(tree: ToolTree) -> None:
             gate.wait(60)
         finally:
             kill_group(gate)
-    assert status_of(gate) == 3
+    assert status_of(gate) == STATUS_OF_RT
 
 
 def test_an_ignored_signal_ends_nothing(tree: ToolTree) -> None:
@@ -289,7 +300,7 @@ def test_an_ignored_signal_ends_nothing(tree: ToolTree) -> None:
         process.send_signal(signal.SIGHUP)
         tree.path("rt.may-end").touch()
         process.wait(60)
-    assert (noted(tree), status_of(process)) == ("", 3)
+    assert (noted(tree), status_of(process)) == ("", STATUS_OF_RT)
 
 
 # ---- Arguments of rt
@@ -297,7 +308,8 @@ def test_an_ignored_signal_ends_nothing(tree: ToolTree) -> None:
 
 def arguments(tree: ToolTree, *words: str, help_text: str = "", env: str | None = None) -> str:
     """Runs the gate, and returns rt's RT_JOBS and arguments."""
-    tree.rt_is(f"[ $1 != --help ] || {{ echo '{help_text}'; exit 2; }}\necho $RT_JOBS: $* > $0.got")
+    prints_help = f"[ $1 != --help ] || {{ echo '{help_text}'; exit 2; }}"
+    tree.rt_is(f"{prints_help}\necho $RT_JOBS: $* > $0.got")
     tree.run("gate", *words, env={"RT_JOBS": env}).required()
     return tree.path("rt.got").read_text(encoding="ascii").strip()
 
@@ -374,9 +386,10 @@ def shown_times(tree: ToolTree) -> dict[str, dict[str, str]]:
     rows = []
     for line in lines_of(tree.run("gate", "--times").required()):
         if line.startswith("|"):
-            rows.append([cell.strip(" `") for cell in line.split("|")[1:-1]])
-    assert rows[0] == ["Crate", *HEADINGS]
-    return {row[0]: dict(zip(HEADINGS, row[1:])) for row in rows[2:]}
+            rows.append([cell.strip(" `") for cell in line.strip("|").split("|")])
+    headings, _rule, *of_crates = rows
+    assert headings == ["Crate", *HEADINGS]
+    return {crate: dict(zip(HEADINGS, cells)) for crate, *cells in of_crates}
 
 
 def test_the_times_of_a_run_are_shown_by_crate(tree: ToolTree) -> None:

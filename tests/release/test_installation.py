@@ -63,7 +63,8 @@ def fixture_installed(installation: tuple[Path, Result]) -> Path:
 
 
 def test_installing_prints_nothing(installation: tuple[Path, Result]) -> None:
-    assert_result(installation[1])
+    _, result = installation
+    assert_result(result)
 
 
 def mode_of(path: Path) -> int:
@@ -133,7 +134,7 @@ def test_removing_twice_does_nothing(tmp_path: Path) -> None:
 def test_a_program_is_replaced_while_it_runs(tmp_path: Path) -> None:
     destination = Destination(tmp_path)
     destination.install().required()
-    command = (tmp_path / "usr/bin/mkpasswd", *HASHED[:-2], "-s", *HASHED[-2:])
+    command = (tmp_path / "usr/bin/mkpasswd", *HASHED, "-s")
     with subprocess.Popen(command, stdin=subprocess.PIPE, stdout=subprocess.PIPE) as running:
         assert_result(destination.install())
         hashed, _ = running.communicate(b"password\n")

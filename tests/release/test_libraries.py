@@ -107,6 +107,7 @@ def assert_loads(
         "GLIBC_TUNABLES": tunables,
     }
     result = run(program, "password", libxcrypt.crypt(b"password", setting), env=changes)
+    # `calling init: /usr/local/lib/libmkpasswd.so.3`
     loaded = re.findall(r"calling init: (\S*/libmkpasswd\S*)", result.stderr.decode())
     assert (result.status, loaded) == (0, [str(library)])
 

@@ -32,6 +32,7 @@ NEWER_LIBRARY = "build/x86-64-v3/libmkpasswd.so.3"
 LIBRARIES = "usr/lib/x86_64-linux-gnu"
 LEAST_CODE = 10_000  # bytes; with fewer, the sections haven't been found
 OWN_TESTS = ("program", "library", "python", "pam")
+# Scripts for sh. $0 is this tree, and $1 its copy.
 COPY = 'umask 077; mkdir "$1"; cd "$0"; tar -c --exclude=./.git --exclude=out . | tar -x -C "$1"'
 BUILD = 'umask 077; "$1/tools/deb" "$1/packages"'
 

@@ -13,6 +13,7 @@ from support.pam import MODULES, Pam, system_log
 from support.process import Changes
 from support.recipes import SIX, Site
 
+# Folders that services and recipes change. The machine gets copies of some, and others empty.
 COPIED = ("/etc", MODULES, "/var/cache/debconf")
 EMPTIED = ("/run", "/srv", "/var/log", "/var/lib/dovecot", "/var/lib/ldap", "/var/lib/nginx")
 

@@ -32,8 +32,15 @@ def logged(pam: Pam, name: str, password: bytes, *items: str) -> str:
     pam.log.entries()
     words = [word for item in (f"rhost={HOST}", *items) for word in ("-I", item)]
     pam.machine.run("pamtester", *words, "example", name, "authenticate", stdin=password + b"\n")
-    entries = pam.log.raw_entries()
-    return "".join(re.sub(r"^<\d+>(.{15} )", r"\1host ", entry) + "\n" for entry in entries)
+    return "".join(map(line_in_file, pam.log.raw_entries()))
+
+
+def line_in_file(entry: str) -> str:
+    """Returns a log entry's line in syslog's file: without its priority, and with the host's name.
+
+    The time has 15 characters, as in `<83>Dec  1 12:00:00 `.
+    """
+    return re.sub(r"^<\d+>(.{15} )", r"\1host ", entry) + "\n"
 
 
 def banned(pam: Pam, log: str, folder: Path) -> list[str]:

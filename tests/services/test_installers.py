@@ -93,6 +93,6 @@ def test_the_file_for_cloud_init_has_one_user_with_a_hash(user_data: Path) -> No
     import yaml
 
     users = yaml.safe_load(user_data.read_text(encoding="ascii"))["users"]
-    values = [(user["name"], user["lock_passwd"], user["hashed_passwd"]) for user in users]
-    assert [value[:2] for value in values] == [(ANN.name, False)]
-    assert is_recommended_hash(values[0][2].encode(), ANN.password), values
+    assert [(user["name"], user["lock_passwd"]) for user in users] == [(ANN.name, False)]
+    hashed = users[0]["hashed_passwd"]
+    assert is_recommended_hash(hashed.encode(), ANN.password), hashed

@@ -20,7 +20,7 @@ from support.libxcrypt import crypt
 from support.namespaces import Namespaces
 from support.pam import Answer
 from support.pam_fields import FILE
-from support.process import Result, run
+from support.process import Result, Word, run
 from support.pwhash_runs import PWHASH
 
 pytestmark = [
@@ -38,6 +38,7 @@ TO_DELETE = [f"gone{number}" for number in range(10, 25)]
 LOGINS_AT_ONCE, CHANGES_AT_ONCE = 6, 2
 SHARE_OF_KILLED = 0.4
 LONGEST_LOGIN = 0.03  # seconds until a login or a change is killed
+SECONDS_TO_END = 300  # for one that isn't killed
 LONGEST_RUN = 0.4  # seconds until a run of pwhash is killed
 PAUSE = 0.0005  # seconds between two looks at the file
 ADDED = b"secret of the administrator\n"
@@ -102,18 +103,21 @@ class Administrator:
     results: list[Result] = field(default_factory=list)
 
     def change(self, words: Sequence[str], name: str) -> None:
-        """Changes a line. Kills some of the runs, and repeats until one of them isn't killed."""
+        """Changes a line."""
         command = self.machine.entering(PWHASH, "set", *words, FILE, name)
+        result = self.run_to_the_end(command)
+        self.results.append(result)
+        if words == ["--lock"] and result.status == 0:
+            self.watcher.locked.add(name)
+
+    def run_to_the_end(self, command: Sequence[Word]) -> Result:
+        """Kills some runs of a command, and repeats it until one of them isn't killed."""
         while self.randoms.random() < SHARE_OF_KILLED:
             life = self.randoms.uniform(0.1, LONGEST_RUN)
-            killed = run(*command, stdin=ADDED, timeout=life)
-            if not killed.has_timed_out and killed.status == 0:
-                self.results.append(killed)
-                break
-        else:
-            self.results.append(run(*command, stdin=ADDED))
-        if words == ["--lock"] and self.results[-1].status == 0:
-            self.watcher.locked.add(name)
+            result = run(*command, stdin=ADDED, timeout=life)
+            if not result.has_timed_out and result.status == 0:
+                return result  # it was quicker
+        return run(*command, stdin=ADDED)
 
     def work(self) -> None:
         """Locks, adds and deletes names in random order."""
@@ -126,30 +130,43 @@ class Administrator:
                 done.result()
 
 
+@dataclass(frozen=True)
+class Visit:
+    """A login or a change of the password."""
+
+    name: str
+    operation: str
+    typed: bytes
+    seconds: float  # until it is killed
+
+    def make(self, machine: Namespaces) -> Result:
+        """Makes the visit."""
+        command = machine.entering("pamtester", "example", self.name, self.operation)
+        return run(*command, stdin=self.typed + b"\n", timeout=self.seconds)
+
+
 def visit(machine: Namespaces, randoms: random.Random, turn: int) -> list[Result]:
     """Has each user log in and change the password, in random order. Kills some of these runs."""
-    visits = []
+    visits: list[Visit] = []
     for name in USERS + TO_LOCK:
         old, new = passwords_of(name)
         if turn % 2:
             old, new = new, old
         for operation, typed in (("authenticate", old), ("chauthtok", new + b"\n" + new)):
             is_killed = randoms.random() < SHARE_OF_KILLED
-            life = randoms.uniform(0, LONGEST_LOGIN) if is_killed else 300
-            visits.append((machine.entering("pamtester", "example", name, operation), typed, life))
+            seconds = randoms.uniform(0, LONGEST_LOGIN) if is_killed else SECONDS_TO_END
+            visits.append(Visit(name, operation, typed, seconds))
     randoms.shuffle(visits)
     with ThreadPoolExecutor(LOGINS_AT_ONCE) as pool:
-        running = [
-            pool.submit(run, *command, stdin=typed + b"\n", timeout=life)
-            for command, typed, life in visits
-        ]
-    return [each.result() for each in running]
+        runs = [pool.submit(each.make, machine) for each in visits]
+    return [each.result() for each in runs]
 
 
 @pytest.fixture(scope="module", name="with_file")
 def fixture_with_file(with_module: Namespaces) -> Namespaces:
     names = USERS + TO_LOCK + TO_DELETE
-    hashes = [crypt(passwords_of(name)[0], b"$6$rounds=1000$abcdefgh") for name in names]
+    passwords = [password for password, _other in map(passwords_of, names)]
+    hashes = [crypt(password, b"$6$rounds=1000$abcdefgh") for password in passwords]
     lines = [b"%b:%b\n" % (name.encode(), stored) for name, stored in zip(names, hashes)]
     with_module.write(FILE, b"".join(lines), 0o600)
     return with_module
@@ -162,21 +179,21 @@ def fixture_beside(with_file: Namespaces) -> Outcome:
     administrator = Administrator(machine, watcher, random.Random(SEED + 1))
     logins: list[Result] = []
     with ThreadPoolExecutor(2) as pool:
-        working = [pool.submit(watcher.watch), pool.submit(administrator.work)]
+        watching, working = pool.submit(watcher.watch), pool.submit(administrator.work)
         try:
             for turn, rounds in enumerate(ROUNDS):
                 line = f"required pam_mkpasswd.so file={FILE} rounds={rounds} budget=1000000 renew"
                 machine.write("/etc/pam.d/example", f"auth {line}\npassword {line}\n")
                 logins += visit(machine, randoms, turn)
-            working[1].result()
+            working.result()
         finally:
             watcher.is_over.set()
-        working[0].result()
+        watching.result()
     return Outcome(watcher, logins, administrator.results, machine.read(FILE))
 
 
 def test_each_run_of_pwhash_that_is_not_killed_succeeds(beside: Outcome) -> None:
-    # A run that was killed may have deleted the name already.
+    # An earlier run that was killed may have deleted one of TO_DELETE already.
     failed = [
         result
         for result in beside.runs

@@ -40,7 +40,9 @@ TO_LOCK = [f"other{number}" for number in range(10, 90)]  # the administrator lo
 AT_ONCE = 12
 SHARE_OF_KILLED = 0.4
 LONGEST_LIFE = 0.03  # seconds until a login or a change is killed
+SECONDS_TO_END = 300  # for one that isn't killed
 LONGEST_SCRIPT = 0.1  # seconds until a script is killed
+SECONDS_OF_SCRIPT = 60  # for one that isn't killed
 PAUSE = 0.0005  # seconds between two looks at the file
 CHANGE = "chauthtok"
 OTHERS = (Answer.REFUSED, Answer.DENIED, Answer.IN_USE)
@@ -140,10 +142,11 @@ class Administrator:
         while not self.is_over.is_set() and not self.field_of(name).startswith("!"):
             field_now = self.field_of(name)
             life = self.randoms.uniform(0, LONGEST_SCRIPT)
+            if self.randoms.random() >= SHARE_OF_KILLED:
+                life = SECONDS_OF_SCRIPT
             command = (sys.executable, replacing.__file__, self.path)
             fields = (field_now, f"!{field_now}")
-            is_killed = self.randoms.random() < SHARE_OF_KILLED
-            result = run(*command, name, *fields, timeout=life if is_killed else 60)
+            result = run(*command, name, *fields, timeout=life)
             self.killed += result.has_timed_out
             assert result.has_timed_out or result.status in (0, NOT_REPLACED), str(result)
         if result and result.status == 0:
@@ -176,7 +179,7 @@ class Visit:
     name: str
     operation: str
     typed: bytes
-    life: float | None
+    life: float | None  # None if it isn't killed
 
 
 @dataclass(frozen=True)
@@ -206,7 +209,8 @@ def was_in_the_way(result: Result) -> bool:
 def visits_of(randoms: random.Random, turn: int) -> list[Visit]:
     """Returns a login and a change of password for each user, in random order."""
     visits = []
-    for name in NAMES + TO_LOCK[: len(TO_LOCK) // 8]:
+    some_to_lock = TO_LOCK[: len(TO_LOCK) // 8]  # so that visits meet locks too
+    for name in NAMES + some_to_lock:
         old, new = passwords_of(name)
         if turn % 2:
             old, new = new, old
@@ -221,7 +225,7 @@ def visits_of(randoms: random.Random, turn: int) -> list[Visit]:
 def visit_machine(machine: Namespaces, visit: Visit) -> Result:
     """Makes a visit, and kills it after its seconds."""
     command = machine.entering("pamtester", "example", visit.name, visit.operation)
-    return run(*command, stdin=visit.typed, timeout=visit.life or 300)
+    return run(*command, stdin=visit.typed, timeout=visit.life or SECONDS_TO_END)
 
 
 @contextlib.contextmanager
@@ -241,7 +245,8 @@ def beside(watcher: Watcher, administrator: Administrator) -> Iterator[None]:
 def fixture_with_file(with_module: Namespaces) -> Namespaces:
     """A machine with the file. It has no system log, which the test would have to read."""
     names = NAMES + TO_LOCK
-    hashes = [crypt(passwords_of(name)[0], b"$6$rounds=1000$abcdefgh") for name in names]
+    passwords = [password for password, _other in map(passwords_of, names)]
+    hashes = [crypt(password, b"$6$rounds=1000$abcdefgh") for password in passwords]
     lines = [b"%b:%b\n" % (name.encode(), field) for name, field in zip(names, hashes)]
     with_module.write(FILE, b"".join(lines), 0o600)
     return with_module

@@ -107,7 +107,7 @@ def test_a_message_asks_the_user_to_try_again_if_the_lock_is_held_for_a_second(p
     result = pam.machine.run("flock", lock, *words, stdin=NEW + b"\n" + NEW + b"\n")
     messages = (result.stdout + result.stderr).decode()
     assert "The password file is in use. Please try again." in messages, result
-    assert time.monotonic() - begin > 0.9
+    assert time.monotonic() - begin > 0.9  # the clocks may differ a little
     assert pam.machine.read(FILE) == CONTENT
 
 
@@ -147,8 +147,8 @@ def test_pam_pwquality_may_refuse_a_password(pam: Pam, new: bytes, answer: Answe
     pam.set_stack(stack)
     call = pam.call("ann", WITH_OLD, PASSWORD, new, new)
     assert call.answer is answer, call
-    found = CONTENT if answer is Answer.NOT_CHANGED else None
-    assert found in (None, pam.machine.read(FILE))
+    if answer is Answer.NOT_CHANGED:
+        assert pam.machine.read(FILE) == CONTENT
 
 
 @pytest.mark.needs("cc", "/usr/include/security/pam_modules.h")

@@ -7,6 +7,7 @@ from __future__ import annotations
 import contextlib
 import os
 import re
+import signal
 import stat
 from collections.abc import Callable, Iterator, Sequence
 from contextlib import AbstractContextManager
@@ -81,7 +82,8 @@ def test_a_login_through_a_link_is_accepted(through_link: Login) -> None:
 
 @pytest.mark.usefixtures("through_link")
 def test_the_hash_is_new(pam: Pam) -> None:
-    line = pam.machine.read(FILE).splitlines(keepends=True)[2]
+    lines = pam.machine.read(FILE).splitlines(keepends=True)
+    (line,) = (line for line in lines if line.startswith(b"two:"))
     assert is_renewed(line), line
 
 
@@ -155,38 +157,38 @@ def test_a_hash_is_renewed_without_o_tmpfile(
 
 
 @dataclass(frozen=True)
-class Met:
-    """A login during which somebody else changes the file this many times."""
+class Overlap:
+    """A login during which somebody else changes the file, and what it leaves."""
 
-    changes: int
+    changes: int  # how often somebody else changes the file
     login: Login
     content: bytes
     others: list[str]
 
 
-@pytest.fixture(name="met", params=range(5), ids=lambda count: f"{count} changes")
-def fixture_met(pam: Pam, between: tuple[str, str], request: pytest.FixtureRequest) -> Met:
+@pytest.fixture(name="overlap", params=range(5), ids=lambda count: f"{count} changes")
+def fixture_overlap(pam: Pam, between: tuple[str, str], request: pytest.FixtureRequest) -> Overlap:
     changes: int = request.param
     pam.machine.write(FILE, LINE)
     for number in range(1, changes + 1):
         pam.machine.write(f"{FILE}.{number}", LINE + b"# %d\n" % number)
     login = pam.login("two", PASSWORD, through=between)
-    return Met(changes, login, pam.machine.read(FILE), others_beside(pam.machine))
+    return Overlap(changes, login, pam.machine.read(FILE), others_beside(pam.machine))
 
 
-def test_a_login_is_accepted_while_somebody_changes_the_file(met: Met) -> None:
-    assert met.login == Login(Answer.ACCEPTED)
+def test_a_login_is_accepted_while_somebody_changes_the_file(overlap: Overlap) -> None:
+    assert overlap.login == Login(Answer.ACCEPTED)
 
 
-def test_the_newest_change_by_somebody_else_stays(met: Met) -> None:
-    if met.changes == 0:
-        assert is_renewed(met.content), met.content
+def test_the_newest_change_by_somebody_else_stays(overlap: Overlap) -> None:
+    if overlap.changes == 0:
+        assert is_renewed(overlap.content), overlap.content
     else:
-        assert met.content == LINE + b"# %d\n" % met.changes
+        assert overlap.content == LINE + b"# %d\n" % overlap.changes
 
 
-def test_a_login_leaves_nothing_beside_the_file(met: Met) -> None:
-    assert met.others == []
+def test_a_login_leaves_nothing_beside_the_file(overlap: Overlap) -> None:
+    assert overlap.others == []
 
 
 def test_a_login_killed_before_its_file_is_complete_changes_nothing(
@@ -200,7 +202,7 @@ def test_a_login_killed_before_its_file_is_complete_changes_nothing(
 
 # ---- Killed logins, and the next one
 
-KILLED = 128 + 9
+KILLED = 128 + signal.SIGKILL
 SECOND = b"six:" + SHA512 + b"\n"
 MOMENTS = ["fsync", "linkat", "exchange", "unlinkat"]
 
@@ -238,7 +240,7 @@ def test_the_next_renewal_puts_back_the_file_that_a_killed_one_took_out(
     assert is_renewed(pam.machine.read(FILE))
     assert pam.login("six", PASSWORD) == Login(Answer.ACCEPTED)
     lines = pam.machine.read(FILE).splitlines(keepends=True)
-    assert (lines[0], is_renewed(lines[1]), len(lines)) == (locked, True, 2), lines
+    assert len(lines) == 2 and lines[0] == locked and is_renewed(lines[1]), lines
     assert others_beside(pam.machine) == []
 
 
@@ -276,7 +278,8 @@ def test_a_mode_that_changes_at_the_last_moment_stays(pam: Pam, between: tuple[s
     pam.machine.write(FILE, LINE, 0o600)
     login = pam.login("two", PASSWORD, through=(*between, "CHMOD=1"))
     assert login == Login(Answer.ACCEPTED)
-    assert stat.S_IMODE(pam.machine.path(FILE).stat().st_mode) == 0o604
+    mode_by_between = 0o604
+    assert stat.S_IMODE(pam.machine.path(FILE).stat().st_mode) == mode_by_between
     assert others_beside(pam.machine) == []
 
 

@@ -106,8 +106,7 @@ def of_line(title: str, field: bytes | None, old: bytes = PASSWORD) -> Row:
     return Row(title, field, old, is_of_line=True)
 
 
-NO_NAME = "no name given"  # pamtester can't try this row
-ROWS = [
+ROWS_OF_LINES = [
     of_line("hash of the password", SHA512),
     of_line("hash of another one", SHA512, WRONG),
     of_line("dead hash", CUT),
@@ -117,6 +116,9 @@ ROWS = [
     of_line("empty field", b""),
     of_line("locked field", b"!" + SHA512),
     of_line("no such line", None),
+]
+NO_NAME = "no name given"  # pamtester can't try this row
+ROWS_OF_OBSTACLES = [
     Row("no password given", old=None),
     Row("empty new password", new=(b"", b"")),
     Row("two new passwords", new=(NEW, WRONG)),
@@ -126,6 +128,7 @@ ROWS = [
     Row("file not readable", blocking=file_is_gone),
     Row("invalid argument", arguments=f"{ARGUMENTS} nullok"),
 ]
+ROWS = [*ROWS_OF_LINES, *ROWS_OF_OBSTACLES]
 
 
 @dataclass(frozen=True)
@@ -173,9 +176,8 @@ SERVICES = [
 
 
 def test_the_table_has_a_row_for_each_case() -> None:
-    assert list(TABLE) == [str(row) for row in ROWS[:9]] + [NO_NAME] + [
-        str(row) for row in ROWS[9:]
-    ]
+    titles = [*map(str, ROWS_OF_LINES), NO_NAME, *map(str, ROWS_OF_OBSTACLES)]
+    assert list(TABLE) == titles
 
 
 @pytest.fixture(name="prepared")

@@ -11,6 +11,7 @@ from support.needs import missing
 from support.recipes import CLOSED, USERS, Site
 from support.services import serving
 
+# A folder for each installed version, the newest last.
 PROGRAMS = sorted(Path("/usr/lib/postgresql").glob("*/bin"))
 pytestmark = [
     pytest.mark.needs("namespaces", "psql"),

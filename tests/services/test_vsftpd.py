@@ -26,6 +26,7 @@ pytestmark = [
 ]
 
 PORT = 8080
+NOT_LOGGED_IN = "530"  # FTP's code for a refused login
 FILE = "/srv/example/passwords"
 CONFIGURATION = f"""\
 listen=YES
@@ -47,6 +48,7 @@ secure_chroot_dir=/run/vsftpd/empty
 COMMENT = b"# more\n"
 LONG_TAIL = COMMENT * 5_000
 LONGER_TAIL = COMMENT * 1_000_000
+TIME_BEFORE_ACCESS = 1  # a second after the beginning of 1970
 # About a second of work: logins overlap, and the file can change after it is read.
 SLOW = b"$5$rounds=1500000$abcdefgh"
 
@@ -61,7 +63,7 @@ def ftp_verdict(machine: Namespaces, name: str, password: str) -> Verdict:
         try:
             client.sendcmd(f"PASS {password}")
         except ftplib.error_perm as error:
-            if not str(error).startswith("530"):
+            if not str(error).startswith(NOT_LOGGED_IN):
                 raise
             return Verdict.REFUSED
     return Verdict.ACCEPTED
@@ -143,7 +145,8 @@ def log_in_while(
     """Logs in as the user `six` with this file, while something else happens."""
     door.site.machine.write(FILE, content)
     # Reading the file updates its access time.
-    os.utime(door.site.machine.path(FILE), (1, door.site.machine.path(FILE).stat().st_mtime))
+    path = door.site.machine.path(FILE)
+    os.utime(path, (TIME_BEFORE_ACCESS, path.stat().st_mtime))
     with ThreadPoolExecutor(1) as pool:
         login = pool.submit(door.log_in, SIX.name, SIX.password)
         meanwhile(login)
@@ -182,7 +185,7 @@ def test_a_file_that_replaces_the_old_one_keeps_all_but_the_checked_hash(
     machine.write(f"{FILE}.other", new)
 
     def is_read() -> bool:
-        return machine.path(FILE).stat().st_atime != 1
+        return machine.path(FILE).stat().st_atime != TIME_BEFORE_ACCESS
 
     def replace(login: Future[Verdict]) -> None:
         wait_until(lambda: is_read() or login.done(), what="a login that reads the file")

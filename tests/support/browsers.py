@@ -4,8 +4,8 @@ Selenium calls Debian's drivers for Chromium and WebKit. Debian has no driver fo
 Firefox itself speaks WebDriver BiDi, which is JSON over a WebSocket. A browser and all its
 processes end with the `with` block that started it, or after two hours.
 
-The limits are for a machine with much other work, where a script that takes a minute alone can take
-a quarter of an hour. A browser that doesn't start within its limit is started again.
+The time limits allow for a busy machine, where a script can take fifteen times as long as alone. A
+browser that doesn't start within its limit is started again.
 """
 from __future__ import annotations
 
@@ -237,7 +237,8 @@ def listening_port(process: subprocess.Popen[bytes]) -> int | None:
     sockets = links_of_descriptors(process)
     for line in Path("/proc/net/tcp").read_text(encoding="ascii").splitlines()[1:]:
         fields = line.split()
-        address, state, inode = fields[1], fields[3], fields[9]
+        address, state, inode = fields[1], fields[3], fields[9]  # as proc(5) says
         if state == LISTENING and f"socket:[{inode}]" in sockets:
-            return int(address.split(":")[1], 16)
+            hexadecimal_port = address.split(":")[1]
+            return int(hexadecimal_port, 16)
     return None

@@ -33,7 +33,7 @@ from .stored_fields import (
 )
 
 COST = cost(read_setting(MD5CRYPT), len(b"password"))
-CHEAP_SCRYPT = b"$7$2/..../....ab"
+CHEAP_SCRYPT = b"$7$2/..../....ab"  # N = 16, r = 1, p = 1
 
 
 @dataclass(frozen=True)
@@ -78,24 +78,25 @@ def calls_of_each_kind() -> list[Call]:
     ]
     calls += in_each_form(
         Bound(MD5CRYPT),
-        Audit(MD5CRYPT, 1),
+        Audit(MD5CRYPT, method=1),
         NeedsRehash(MD5CRYPT),
         Limit(),
-        Rounds(200),
-        MakeSetting(6, 0, b"salt"),
+        Rounds(password_length=200),
+        MakeSetting(method=6, rounds=0, salt=b"salt"),
         Hash(b"password", b"!"),
         Verify(b"", SCRYPT_OF_NOTHING.text),
         Verify(b"x", SCRYPT_OF_NOTHING.text),
         Hash(b"password", CHEAP_SCRYPT),
         Hash(b"password", CHEAP_SCRYPT, GREATEST),
-        New(b"password", 1),
-        New(b"password", 7, 6),
+        New(b"password", method=1),
+        New(b"password", method=7, rounds=6),
         Message(Reason.DEAD),
-        SchemeName(7),
+        SchemeName(scheme=7),
     )
     fields = (
         *(None, b"", b"!", b"*", b"!" + b"a" * 399),
         *(b"$y$x", b"$6$rounds=999999999$ab$x", MD5CRYPT),
     )
-    calls += in_each_form(*(Login(b"password", field, 6, 1000) for field in fields))
+    logins = (Login(b"password", field, method=6, rounds=1000) for field in fields)
+    calls += in_each_form(*logins)
     return calls

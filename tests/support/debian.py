@@ -43,7 +43,6 @@ OTHERS = (
     "sse4.2-support",
     "whois",
 )
-# One worker runs all tests of a release, so that its root is made once.
 RELEASES = {"bookworm": "Debian 12", "trixie": "Debian 13"}
 OLDEST = "bookworm"
 # For a second after dpkg has changed something, apt trusts a stale cache, so it runs without one.
@@ -52,6 +51,8 @@ LONGEST_BUILD = 900  # seconds
 LONGEST_SCRIPT = 1200  # seconds that a script in a root may take
 LONGEST_BOOTSTRAP = 1800  # seconds
 LAST_LINES = 60  # lines of a script's output that a failure shows
+# Scripts for sh. $0 has the overlay's read-only folders, and $1 is the folder of its layer. ENTER
+# runs the script $2 in the root.
 LAYER = """
 mount -t overlay overlay -o "lowerdir=$0,upperdir=$1/changes,workdir=$1/work" "$1/root"
 """
@@ -62,10 +63,12 @@ mount --rbind /sys "$1/root/sys"
 mount --bind /dev/pts "$1/root/dev/pts"
 exec chroot "$1/root" sh -euc "$2"
 """
+# Folders that change without an installation, or where dpkg keeps its own state.
 UNWATCHED = (
     *("/proc", "/sys", "/dev", "/tmp", "/debs", "/changed", "/source"),
     *("/var/cache", "/var/lib/apt", "/var/lib/dpkg", "/var/log"),
 )
+# Begins a command that gets nothing of the tests' environment.
 BARE = (
     "env",
     "-i",
@@ -78,7 +81,10 @@ UNSHARE = ("unshare", "--mount", "--pid", "--fork", "--kill-child")
 
 
 def release(suite: str) -> object:
-    """Returns a Debian release as a parameter of tests."""
+    """Returns a Debian release as a parameter of tests.
+
+    One worker runs all tests of a release, so that its root is made once.
+    """
     title = RELEASES[suite]
     return pytest.param(suite, id=title, marks=pytest.mark.xdist_group(title))
 

@@ -13,8 +13,8 @@ from pathlib import Path
 from . import ROOT
 from .process import run
 
-MARK = re.compile(r"<!-- tested: (.+) -->")
-FENCE = re.compile(r"( *)```(\S*) *")
+MARK = re.compile(r"<!-- tested: (?P<name>.+) -->")
+FENCE = re.compile(r"(?P<margin> *)```(?P<language>\S*) *")
 PROMPT = "$ "
 CONTINUATION = "> "
 # Characters that manuals escape.
@@ -85,25 +85,26 @@ def blocks_of(path: Path) -> list[Block]:
     blocks: list[Block] = []
     lines = lines_of(path)
     above = ""  # the last nonempty line before the block
-    number = 0
-    while number < len(lines):
-        fence = FENCE.fullmatch(lines[number])
-        number += 1
+    index = 0  # of the next line
+    while index < len(lines):
+        line = lines[index]
+        index += 1
+        fence = FENCE.fullmatch(line)
         if fence is None:
-            above = lines[number - 1] or above
+            above = line or above
             continue
-        code = code_until_fence(lines[number:], margin=fence[1])
+        code = code_until_fence(lines[index:], margin=fence["margin"])
         mark = MARK.fullmatch(above.strip())
         blocks.append(
             Block(
-                place=Place(path, number + 1),
+                place=Place(path, index + 1),
                 number=len(blocks) + 1,
-                language=fence[2],
-                mark=mark[1] if mark else None,
-                code="".join(f"{line}\n" for line in code),
+                language=fence["language"],
+                mark=mark["name"] if mark else None,
+                code="".join(f"{code_line}\n" for code_line in code),
             )
         )
-        number += len(code) + 1
+        index += len(code) + 1  # and the closing fence
         above = ""
     return blocks
 
@@ -182,6 +183,7 @@ def examples_of_console(block: Block) -> Iterator[Example]:
 
 def examples_of_manual(path: Path) -> Iterator[Example]:
     """Yields the examples of a manual, each with its line in the manual's source."""
+    # A block begins with a prompt, and ends before an empty line.
     blocks = re.findall(r"^\$ .*?\n(?=\n|\Z)", rendered_manual(path), re.MULTILINE | re.DOTALL)
     texts = [text for block in blocks for text in texts_of_examples(block)]
     for text, place in zip(texts, prompts_of(path)):

@@ -97,8 +97,8 @@ class Driver:
     def assert_answer(self, call: Call, system: System = System(), **expected: int | str) -> None:
         """Makes a call. Fails the test unless its answer has these values and is the model's."""
         received = self.answers([call], system)[0]
-        by_the_rules = call.expected(system)
-        lines = difference(dataclasses.replace(by_the_rules, **expected), received)
-        lines += difference(by_the_rules, received)
+        of_model = call.expected(system)
+        lines = difference(dataclasses.replace(of_model, **expected), received)
+        lines += difference(of_model, received)
         if lines:
             raise AssertionError("\n".join([self.command_to_repeat(call, system, 1), *lines]))

@@ -75,7 +75,10 @@ class Player:
 
 
 def words_of(command: str) -> list[str]:
-    """Returns the words of a command that may be passwords. The likeliest, in quotes, are last."""
+    """Returns the words of a command that may be passwords. The likeliest, in quotes, are last.
+
+    A backslash with an n separates words too: printf prints it as a line feed.
+    """
     bare = re.split(r"[\s:'\"|<>;]+|\\n", command)
     quoted = re.split(r"['\":]|\\n|\n", command)
     return [word for word in [*bare, *quoted] if WORD.fullmatch(word)]
@@ -122,7 +125,12 @@ def problems_of_salted(played: Played) -> Iterator[str]:
 
 def form_of(text: str) -> str:
     """Returns a text in which each salt and digest is replaced by its length."""
-    return HASH.sub(lambda found: f"{found[1]}{len(found[2])} ${len(found[3])} ", text)
+
+    def lengths_of(found: re.Match[str]) -> str:
+        setting, salt, digest = found.groups()
+        return f"{setting}{len(salt)} ${len(digest)} "
+
+    return HASH.sub(lengths_of, text)
 
 
 def hashes_of(text: str) -> list[str]:

@@ -8,6 +8,8 @@ from collections.abc import Iterator
 from dataclasses import dataclass
 
 OLDEST = 8  # the oldest minor version of Python 3 that our code supports
+# Minor versions to look for: some that are too old, and some that don't exist yet.
+MINOR_VERSIONS = range(6, 20)
 
 
 @dataclass(frozen=True)
@@ -23,9 +25,10 @@ class Interpreter:
 
 def interpreters() -> Iterator[Interpreter]:
     """Yields one interpreter for each version of Python 3, from the system or the user's pyenv."""
-    for minor in range(6, 20):
+    for minor in MINOR_VERSIONS:
         version = f"3.{minor}"
         found = shutil.which(f"python{version}", path="/usr/bin:/usr/local/bin")
-        own = sorted(glob.glob(os.path.expanduser(f"~/.pyenv/versions/{version}.*/bin/python3")))
-        if found or own:
-            yield Interpreter(minor, found or own[0])
+        pattern = os.path.expanduser(f"~/.pyenv/versions/{version}.*/bin/python3")
+        of_pyenv = sorted(glob.glob(pattern))
+        if found or of_pyenv:
+            yield Interpreter(minor, found or of_pyenv[0])

@@ -5,7 +5,7 @@ import ctypes
 import errno
 
 LONGEST_PASSWORD = 511  # bytes
-SIZE_OF_CRYPT_DATA = 32768
+SIZE_OF_CRYPT_DATA = 32768  # bytes of struct crypt_data, from crypt.h
 
 _library = ctypes.CDLL("libcrypt.so.1", use_errno=True)
 _library.crypt_rn.argtypes = [ctypes.c_char_p, ctypes.c_char_p, ctypes.c_void_p, ctypes.c_int]

@@ -197,8 +197,8 @@ class MeasuredTree:
         calls = [re.sub("(SEED=|--jobs )[0-9]+", r"\1N", call) for call in self.calls()]
         return [call for call in calls if call.split()[1] not in BUILT]
 
-    def kept(self, pattern: str) -> list[str]:
-        """Returns the names of logs, artifacts and fuzzers' inputs that match a pattern."""
+    def saved(self, pattern: str) -> list[str]:
+        """Returns the names of the files in build/evidence/COMMIT that match a pattern."""
         return sorted(path.name for path in self.folder.glob(f"build/evidence/*/{pattern}"))
 
     def results(self, pattern: str = "*") -> list[str]:

@@ -31,6 +31,7 @@ CLONE_NEWNET = 0x40000000  # from setns(2)
 SIOCSIFFLAGS, IFF_UP = 0x8914, 1  # from netdevice(7)
 DEVICES = "null zero full random urandom tty"
 
+# A script for sh. $1 is the folder, and $2 is "empty" or "copy".
 OWN_FOLDER = """\
 new=$(mktemp -d)
 mount -n -t tmpfs -o mode=755 tmpfs "$new"
@@ -160,7 +161,7 @@ class Namespaces:
 
     def raise_loopback(self) -> None:
         """Brings the loopback interface up."""
-        request = struct.pack("16sH22x", b"lo", IFF_UP)
+        request = struct.pack("16sH22x", b"lo", IFF_UP)  # struct ifreq: a name, flags, padding
         with self.network(), socket.socket(socket.AF_INET, socket.SOCK_DGRAM) as control:
             fcntl.ioctl(control, SIOCSIFFLAGS, request)
 

@@ -47,7 +47,10 @@ def package_of() -> dict[str, str]:
 
 
 def is_there(name: str) -> bool:
-    """Returns whether a file (/..), a Python module (python3-..) or else a command is installed."""
+    """Returns whether a file, a Python module or a command is installed.
+
+    A file has its whole path, and a module the name of its package, such as python3-yaml.
+    """
     if name.startswith("/"):
         return Path(name).exists()
     if name.startswith("python3-"):

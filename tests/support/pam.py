@@ -57,10 +57,11 @@ def displays_of_manual() -> list[str]:
 def stacks_of_manual() -> Stacks:
     """Returns the stacks of the manual's examples."""
     displays = displays_of_manual()
-    of_file = [display for display in displays if display.startswith("auth  ")]
+    begin_with_auth = [display for display in displays if display.startswith("auth  ")]
     with_pwquality = [display for display in displays if "pam_pwquality" in display]
-    assert len(of_file) == 2 and len(with_pwquality) == 1, displays
-    return Stacks(of_file[1], with_pwquality[0])
+    assert len(begin_with_auth) == 2 and len(with_pwquality) == 1, displays
+    _synopsis, of_file = begin_with_auth
+    return Stacks(of_file, with_pwquality[0])
 
 
 def answer_of(result: Result) -> Answer:
@@ -103,8 +104,9 @@ class SystemLog:
         """Returns the new log entries, without the prefix that PAM adds to pam_mkpasswd's."""
         texts = []
         for entry in self.raw_entries():
-            beginning = re.match(r".*?pam_mkpasswd\([\w-]+:\w+\): ", entry, re.DOTALL)
-            texts.append(entry[beginning.end() :] if beginning else entry)
+            # `.. pam_mkpasswd(sshd:auth): `
+            prefix = re.match(r".*?pam_mkpasswd\([\w-]+:\w+\): ", entry, re.DOTALL)
+            texts.append(entry[prefix.end() :] if prefix else entry)
         return tuple(texts)
 
 

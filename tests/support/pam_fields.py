@@ -26,7 +26,7 @@ OTHERS = ("yescrypt", "bcrypt", "descrypt", "bsdicrypt")
 SHA512 = HASHES["sha512crypt"]
 CUT = SHA512[:-1]
 HOSTILE = b"$6$rounds=999999999$saltsalt$" + b"a" * 86
-# The beginning of a hash with the default policy, and such a hash.
+# How a hash with the default policy begins, and a whole one, of PASSWORD.
 RECOMMENDED = b"$6$rounds=656000$"
 SHA512_RECOMMENDED = (
     RECOMMENDED + b"abcdefghijklmnop$fiPLN8PJZDrnKw45jP4lFu5V3YSzxzKd0fzICIEExvMrpKJaHNJay"

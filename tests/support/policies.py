@@ -33,40 +33,51 @@ class InvalidPolicy(Policy):
     error: Reason
 
 
-RECOMMENDED = Policy("the recommended one", 0, 0)
+RECOMMENDED = Policy("the recommended one", method=0, rounds=0)
 # Of all calls, only mkpasswd_needs_rehash clamps SHA-crypt's rounds, as the formats do.
 CLAMPED = (
-    Policy("sha512crypt with 10 rounds", 6, 10),
-    Policy("sha512crypt with the greatest number as rounds", 6, GREATEST_32),
+    Policy("sha512crypt with 10 rounds", method=6, rounds=10),
+    Policy("sha512crypt with the greatest number as rounds", method=6, rounds=GREATEST_32),
 )
 POLICIES = (
-    Policy("md5crypt", 1, 0),
-    Policy("md5crypt with rounds, which it ignores", 1, 5),
-    Policy("sha256crypt as recommended", 5, 0),
-    Policy("sha256crypt with 5000 rounds", 5, 5000),
+    Policy("md5crypt", method=1, rounds=0),
+    Policy("md5crypt with rounds, which it ignores", method=1, rounds=5),
+    Policy("sha256crypt as recommended", method=5, rounds=0),
+    Policy("sha256crypt with 5000 rounds", method=5, rounds=5000),
     RECOMMENDED,
-    Policy("the recommended method with 5000 rounds", 0, 5000),
-    Policy("sha512crypt as recommended", 6, 0),
+    Policy("the recommended method with 5000 rounds", method=0, rounds=5000),
+    Policy("sha512crypt as recommended", method=6, rounds=0),
     *CLAMPED,
-    Policy("scrypt as recommended", 7, 0),
-    Policy("scrypt with the lowest cost", 7, 6),
-    Policy("scrypt with the highest cost", 7, 11),
+    Policy("scrypt as recommended", method=7, rounds=0),
+    Policy("scrypt with the lowest cost", method=7, rounds=6),
+    Policy("scrypt with the highest cost", method=7, rounds=11),
 )
 INVALID_POLICIES = (
-    InvalidPolicy("method 2", 2, 0, Reason.UNKNOWN_METHOD),
-    InvalidPolicy("method 3", 3, 5, Reason.UNKNOWN_METHOD),
-    InvalidPolicy("method 4", 4, 0, Reason.UNKNOWN_METHOD),
-    InvalidPolicy("method 8", 8, 0, Reason.UNKNOWN_METHOD),
-    InvalidPolicy("the greatest number as the method", GREATEST_32, 7, Reason.UNKNOWN_METHOD),
-    InvalidPolicy("scrypt with cost 1", 7, 1, Reason.ROUNDS),
-    InvalidPolicy("scrypt with cost 5", 7, 5, Reason.ROUNDS),
-    InvalidPolicy("scrypt with cost 12", 7, 12, Reason.ROUNDS),
-    InvalidPolicy("scrypt with the greatest number as cost", 7, GREATEST_32, Reason.ROUNDS),
+    InvalidPolicy("method 2", method=2, rounds=0, error=Reason.UNKNOWN_METHOD),
+    InvalidPolicy("method 3", method=3, rounds=5, error=Reason.UNKNOWN_METHOD),
+    InvalidPolicy("method 4", method=4, rounds=0, error=Reason.UNKNOWN_METHOD),
+    InvalidPolicy("method 8", method=8, rounds=0, error=Reason.UNKNOWN_METHOD),
+    InvalidPolicy(
+        "the greatest number as the method",
+        method=GREATEST_32,
+        rounds=7,
+        error=Reason.UNKNOWN_METHOD,
+    ),
+    InvalidPolicy("scrypt with cost 1", method=7, rounds=1, error=Reason.ROUNDS),
+    InvalidPolicy("scrypt with cost 5", method=7, rounds=5, error=Reason.ROUNDS),
+    InvalidPolicy("scrypt with cost 12", method=7, rounds=12, error=Reason.ROUNDS),
+    InvalidPolicy(
+        "scrypt with the greatest number as cost", method=7, rounds=GREATEST_32, error=Reason.ROUNDS
+    ),
 )
 # Policies that all calls except mkpasswd_needs_rehash refuse, since they don't clamp rounds.
 INVALID_ROUNDS = (
-    InvalidPolicy("the recommended method with 999 rounds", 0, 999, Reason.ROUNDS),
-    InvalidPolicy("sha512crypt with 999 rounds", 6, 999, Reason.ROUNDS),
-    InvalidPolicy("sha256crypt with one round", 5, 1, Reason.ROUNDS),
-    InvalidPolicy("sha512crypt with 1000000000 rounds", 6, 1_000_000_000, Reason.ROUNDS),
+    InvalidPolicy(
+        "the recommended method with 999 rounds", method=0, rounds=999, error=Reason.ROUNDS
+    ),
+    InvalidPolicy("sha512crypt with 999 rounds", method=6, rounds=999, error=Reason.ROUNDS),
+    InvalidPolicy("sha256crypt with one round", method=5, rounds=1, error=Reason.ROUNDS),
+    InvalidPolicy(
+        "sha512crypt with 1000000000 rounds", method=6, rounds=1_000_000_000, error=Reason.ROUNDS
+    ),
 )

@@ -12,6 +12,8 @@ from .model.calls import Reason
 
 LONGEST_PASSWORD = 1024
 LIMIT_FLOOR = 150_000_000
+USUAL_LONGEST_PASSWORD = 64  # a limit is twice the cost of hashing a password of this length
+LONGEST_HMAC_KEY = 64  # bytes; HMAC digests a longer key first
 FEWEST_ROUNDS = 1000
 MOST_ROUNDS = 999_999_999
 
@@ -55,7 +57,12 @@ class Policy:
         """The most that a login or a new hash may cost."""
         if self.budget:
             return self.budget
-        return max(LIMIT_FLOOR, 2 * new_cost(self.method, self.chosen_rounds, 64))
+        return max(LIMIT_FLOOR, 2 * self.usual_cost)
+
+    @property
+    def usual_cost(self) -> int:
+        """The cost of a new hash of a password that is usually the longest."""
+        return new_cost(self.method, self.chosen_rounds, USUAL_LONGEST_PASSWORD)
 
 
 # ---- The formulas of docs/FORMATS.md
@@ -64,7 +71,7 @@ class Policy:
 def scrypt_cost(rounds: int, length: int) -> int:
     """Returns the cost of a new scrypt hash: N = 2^(rounds + 7), r = 32, p = 1."""
     rows, block_size, parts = 1 << (rounds + 7), 32, 1
-    of_key = length if length > 64 else 0
+    of_key = length if length > LONGEST_HMAC_KEY else 0
     of_tags = 4 * block_size * parts * (164 + SALT_LENGTH[SCRYPT])
     digested = of_key + of_tags + 164 + 128 * block_size * parts
     return digested + 256 * rows * block_size * parts
@@ -122,11 +129,11 @@ def fitted_rounds(policy: Policy, length: int) -> int | None:
 
 def random_rounds(source: random.Random, method: int) -> int:
     """Returns rounds of any size, valid in most cases."""
-    if source.random() < 0.1:
+    if source.random() < 0.1:  # edge cases
         return source.choice((0, 1, 999, 1000, 5000, MOST_ROUNDS, MOST_ROUNDS + 1, 2**32 - 1))
     if method == SCRYPT:
         return source.randrange(13)
-    return int(10 ** source.uniform(2.9, 9.0))
+    return int(10 ** source.uniform(2.9, 9.0))  # 794 to 10^9, small and large ones alike
 
 
 def random_budget(source: random.Random, policy: Policy) -> int:

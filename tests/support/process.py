@@ -51,10 +51,16 @@ def printable(value: bytes) -> str:
     return repr(value[:LONGEST_SHOWN]) + cut
 
 
+def printable_word(word: Word) -> str:
+    """Returns an argument as a string, with escapes for bytes outside ASCII."""
+    if isinstance(word, bytes):
+        return ascii(word).removeprefix("b")[1:-1]  # without the quotes
+    return str(word)
+
+
 def printable_command(command: Sequence[Word]) -> str:
     """Returns a command as one line of printable characters, cut if it is very long."""
-    words = [ascii(word)[2:-1] if isinstance(word, bytes) else str(word) for word in command]
-    text = shlex.join(words).replace("\n", "\\n")
+    text = shlex.join(map(printable_word, command)).replace("\n", "\\n")
     return text if len(text) <= LONGEST_SHOWN else f"{text[:LONGEST_SHOWN]}.."
 
 

@@ -133,6 +133,7 @@ def hashed(password: bytes, setting: str = "$1$xxxxxxxx") -> bytes:
 
 
 def lines_named_in(message: bytes) -> list[int]:
+    """Returns the numbers of the lines that a message of pwhash names."""
     return [int(number) for number in re.findall(rb"line ([0-9]+)", message)]
 
 
@@ -149,6 +150,7 @@ def wait_for(condition: Callable[[], bool]) -> None:
 
 
 def has_begun(part: str = "hashes.part") -> bool:
+    """Returns whether a run has written something to its part file."""
     with contextlib.suppress(FileNotFoundError):
         return os.path.getsize(part) > 0
     return False
@@ -185,6 +187,7 @@ def seconds_to_end(process: subprocess.Popen[bytes], number: int) -> tuple[float
 
 
 def users(count: int) -> bytes:
+    """Returns this many lines `NAME:PASSWORD`."""
     return b"".join(b"user%d:password%d\n" % (number, number) for number in range(count))
 
 
@@ -230,7 +233,10 @@ def go_on(process: subprocess.Popen[bytes]) -> Ended:
 
 @contextlib.contextmanager
 def halted_run() -> Iterator[subprocess.Popen[bytes]]:
-    """Runs the block while a run that hashes `passwords` is halted."""
+    """Runs the block while a run that hashes `passwords` is halted.
+
+    The list is from 2001, so that every change by a test gives it another time.
+    """
     save("passwords", users(SLOW_COUNT))
     os.utime("passwords", (1e9, 1e9))
     with halted(PWHASH, "file", *SLOW, "passwords", "-o", "hashes") as process:
@@ -277,15 +283,17 @@ class Terminal:
 
 
 def shows_keys(terminal: int) -> bool:
-    return bool(termios.tcgetattr(terminal)[3] & termios.ECHO)
+    local_modes = termios.tcgetattr(terminal)[3]
+    return bool(local_modes & termios.ECHO)
 
 
 def erase_whole_characters(utf8: bool) -> None:
     """Makes the terminal on standard input erase a character of UTF-8 whole, or byte by byte."""
-    flags = termios.tcgetattr(0)
-    iutf8 = getattr(termios, "IUTF8", 0o40000)
-    flags[0] = flags[0] | iutf8 if utf8 else flags[0] & ~iutf8
-    termios.tcsetattr(0, termios.TCSANOW, flags)
+    attributes = termios.tcgetattr(0)
+    input_modes = attributes[0]
+    iutf8 = getattr(termios, "IUTF8", 0o40000)  # Python has its name from 3.13 on
+    attributes[0] = input_modes | iutf8 if utf8 else input_modes & ~iutf8
+    termios.tcsetattr(0, termios.TCSANOW, attributes)
 
 
 def at_terminal(
@@ -299,7 +307,8 @@ def at_terminal(
     import pexpect
 
     child = pexpect.spawn(
-        *(PWHASH, list(words)),
+        PWHASH,
+        list(words),
         timeout=60,
         echo=True,
         preexec_fn=lambda: erase_whole_characters(utf8),  # later it would undo what pwhash sets
@@ -347,13 +356,22 @@ class Load:
     memory: int
 
 
+def state_and_parent(stat: pathlib.Path) -> tuple[str, int]:
+    """Reads proc(5)'s file `stat` of a process or a thread: its state, and its parent's id.
+
+    The name before them, in parentheses, may have any characters.
+    """
+    text = stat.read_text(encoding="latin-1")
+    state, parent = text.rpartition(")")[2].split()[:2]
+    return state, int(parent)
+
+
 def tree(first: int) -> list[int]:
     """Returns the ids of a process and of all its descendants."""
     children: dict[int, list[int]] = {}
     for process in filter(str.isdecimal, os.listdir("/proc")):
         with contextlib.suppress(OSError):  # it has ended
-            text = pathlib.Path(f"/proc/{process}/stat").read_text(encoding="latin-1")
-            parent = int(text.rpartition(")")[2].split()[1])
+            _, parent = state_and_parent(pathlib.Path(f"/proc/{process}/stat"))
             children.setdefault(parent, []).append(int(process))
     found = [first]
     for number in found:
@@ -366,7 +384,7 @@ def working_threads(process: int, first: int) -> int:
     count = 0
     with contextlib.suppress(OSError):  # it has ended
         for path in pathlib.Path(f"/proc/{process}/task").iterdir():
-            state = (path / "stat").read_text(encoding="latin-1").rpartition(")")[2].split()[0]
+            state, _ = state_and_parent(path / "stat")
             if state == "R" and path.name != str(first):
                 count += 1
     return count
@@ -375,14 +393,16 @@ def working_threads(process: int, first: int) -> int:
 def state_of(process: int) -> str:
     """Returns proc(5)'s letter for a process's state, such as T if stopped, or "" if it is gone."""
     with contextlib.suppress(OSError):
-        text = pathlib.Path(f"/proc/{process}/stat").read_text(encoding="latin-1")
-        return text.rpartition(")")[2].split()[0]
+        state, _ = state_and_parent(pathlib.Path(f"/proc/{process}/stat"))
+        return state
     return ""
 
 
 def resident(process: int) -> int:
+    """Returns how many bytes of a process are in memory, or 0 if it has ended."""
     with contextlib.suppress(OSError):
-        pages = pathlib.Path(f"/proc/{process}/statm").read_text(encoding="ascii").split()[1]
+        statm = pathlib.Path(f"/proc/{process}/statm").read_text(encoding="ascii")
+        _size, pages, *_ = statm.split()
         return int(pages) * os.sysconf("SC_PAGE_SIZE")
     return 0
 
@@ -416,6 +436,7 @@ def watched(script: str, *words: str) -> tuple[Ended, Load]:
 
 
 def some_processors(count: int) -> str:
+    """Returns a script for watched() that lets the run use this many processors."""
     available = sorted(os.sched_getaffinity(0))
     if len(available) < 4:
         not_applicable("fewer than four processors")
@@ -423,12 +444,15 @@ def some_processors(count: int) -> str:
 
 
 def available(mebibytes: int) -> str:
+    """Returns a script for watched() by which the machine has this much memory left."""
     return f"""
         sed 's/^MemAvailable:.*/MemAvailable:   {mebibytes << 10} kB/' /proc/meminfo > meminfo
         mount --bind meminfo /proc/meminfo
     """
 
 
+# Scripts for watched() that put the run into a control group without limits, of version 2 (below
+# the group `above`) or of version 1. What follows such a script can set a limit.
 GROUP_VERSION_2 = """
     mount -t tmpfs none /sys/fs/cgroup
     echo 0::/above/own > group

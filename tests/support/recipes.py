@@ -130,6 +130,7 @@ class Site:
     def add_accounts(self) -> None:
         """Gives all names a system account with a locked password."""
         names = sorted([*(user.name for user in USERS), *CLOSED])
+        # passwd(5) and shadow(5) say what the fields are.
         users = "".join(f"{name}:x:4242:4242::/:/bin/sh\n" for name in names)
         self.machine.append("/etc/passwd", users)
         fields = "".join(f"{name}:!:19000:0:99999:7:::\n" for name in names)

@@ -20,8 +20,8 @@ def version() -> str:
 def processor_of_build() -> str:
     """Returns the processor that make built the archive for."""
     path = ROOT / "build/cpu"
-    told = path.read_text(encoding="ascii").strip() if path.exists() else ""
-    return told or "x86-64"
+    named = path.read_text(encoding="ascii").strip() if path.exists() else ""
+    return named or "x86-64"
 
 
 def files_below(folder: Path) -> list[str]:

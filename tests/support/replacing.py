@@ -16,9 +16,10 @@ import time
 from collections.abc import Iterator
 from pathlib import Path
 
-RENAME_EXCHANGE = 2
+RENAME_EXCHANGE = 2  # from linux/fs.h
+AT_FDCWD = -100  # from fcntl.h: a relative path begins in the current folder
 SECONDS = 1.0  # to wait for the lock
-PAUSE = 0.01
+PAUSE = 0.01  # seconds between two attempts to take it
 
 _library = ctypes.CDLL(None, use_errno=True)
 
@@ -34,7 +35,8 @@ def beside(path: Path, ending: str) -> Path:
 
 def exchange(one: Path, other: Path) -> None:
     """Exchanges two files."""
-    if _library.renameat2(-100, bytes(one), -100, bytes(other), RENAME_EXCHANGE) != 0:
+    paths = (AT_FDCWD, bytes(one), AT_FDCWD, bytes(other))
+    if _library.renameat2(*paths, RENAME_EXCHANGE) != 0:
         raise OSError(ctypes.get_errno(), "renameat2")
 
 
@@ -142,13 +144,13 @@ def put_in_place(path: Path, old: os.stat_result, new: os.stat_result) -> bool:
 
     Returns whether the new file stays.
     """
-    expected, inside = old, new
+    expected, put_in = old, new  # what an exchange should take out, and what it puts in
     while True:
         exchange(beside(path, "new"), path)
-        out = os.lstat(beside(path, "new"))
-        if version(out) == version(expected):
-            return is_same_file(inside, new)
-        expected, inside = inside, out
+        taken_out = os.lstat(beside(path, "new"))
+        if version(taken_out) == version(expected):
+            return is_same_file(put_in, new)
+        expected, put_in = put_in, taken_out
 
 
 def replace_under_lock(path: Path, name: bytes, old: bytes, new: bytes) -> None:

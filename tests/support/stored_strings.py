@@ -15,6 +15,8 @@ SHA512 = (
 SCRYPT = "$7$CU..../....s"
 # Checking it takes only a second or two, so that a test ends even if the budget is ignored.
 COSTLY = "$6$rounds=2500000$saltstring$" + "x" * 86
+# The characters of a field that stand in the id of a test.
+LONGEST_SHOWN = 40
 
 
 @dataclass(frozen=True)
@@ -27,7 +29,12 @@ class StoredField:
     scheme: str | None = None  # the scheme's name in crypt(5)
 
     def __str__(self) -> str:
-        return f"{self.reason.message}: {ascii(self.text[:40])[1:-1]}"
+        return f"{self.reason.message}: {beginning(self.text)}"
+
+
+def beginning(text: str) -> str:
+    """Returns what an id shows of a field, with escapes for characters outside ASCII."""
+    return ascii(text[:LONGEST_SHOWN])[1:-1]  # without the quotes
 
 
 UNKNOWN = [StoredField(text, Reason.UNKNOWN_SCHEME) for text in ("x", "password")]
@@ -72,5 +79,7 @@ NEVER_OPEN = [*LOCKED, *DEAD, *(field.text for field in REFUSED), COSTLY]
 
 def title(text: str) -> str:
     """Returns a field as the id of a test, cut if it is long."""
-    shown = ascii(text[:40])[1:-1] + (".." if len(text) > 40 else "")
+    shown = beginning(text)
+    if len(text) > LONGEST_SHOWN:
+        shown += ".."
     return shown or "nothing"

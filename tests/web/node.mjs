@@ -19,29 +19,31 @@ function outcomeOf(call) {
 
 // ---- Refusals, audits and defaults
 
-const refusedCalls = [
-    () => hash('\ud83d'),
-    () => setting('bcrypt', 12),
-    () => setting('sha512crypt', 12),
-    () => crypt('x', '$6$rounds=999999999$s'),
-    ...JSON.parse(rows).map(([stored, password]) => () => verify(password, stored)),
-];
+const refusedCalls = {
+    loneSurrogate: () => hash('\ud83d'),
+    bcrypt: () => setting('bcrypt', 12),
+    fewRounds: () => setting('sha512crypt', 12),
+    mostRounds: () => crypt('x', '$6$rounds=999999999$s'),
+};
+const refusedChecks = JSON.parse(rows)
+    .map(([stored, password]) => () => verify(password, stored));
 
 function audited([stored, method, rounds, budget]) {
     return outcomeOf(() => String(new Policy({ method, rounds, budget }).describe(stored)));
 }
 
 // Results with the defaults, and with the module's recommended rounds.
+const PREFIX_LENGTH = '$6$rounds=656000$'.length;
 const longest = 'x'.repeat(168);
 const longer = 'x'.repeat(169);
 const standard = hash(longest);
-const defaults = [
-    standard.slice(0, 17),
-    setting('sha512crypt', 0).slice(0, 17),
-    verify(longest, standard),
-    outcomeOf(() => hash(longer)),
-    outcomeOf(() => verify(longer, standard)),
-];
+const defaults = {
+    hash: standard.slice(0, PREFIX_LENGTH),
+    setting: setting('sha512crypt', 0).slice(0, PREFIX_LENGTH),
+    longestVerified: verify(longest, standard),
+    longerHashed: outcomeOf(() => hash(longer)),
+    longerVerified: outcomeOf(() => verify(longer, standard)),
+};
 const hashes = {};
 for (const [method, rounds] of Object.entries(ROUNDS)) {
     hashes[method] = new Policy({ method, rounds }).hash('password');
@@ -62,16 +64,24 @@ function postedFor(password, stored) {
 }
 
 const anyCost = new Policy({ budget: NO_LIMIT });
-function checks(password, stored) {
-    return [postedFor(password, stored).at(-1).isMatch, anyCost.verify(password, stored)];
+
+// Returns whether a password matches, by the page's worker and by the module.
+function matches(password, stored) {
+    return {
+        page: postedFor(password, stored).at(-1).isMatch,
+        module: anyCost.verify(password, stored),
+    };
 }
 
 function checked(line) {
     const fromDigits = (digits) => Uint8Array.from(Buffer.from(digits, 'hex'));
     const [password, stored] = line.split(' ').map(fromDigits);
     const wrong = Uint8Array.of(1, ...password.slice(1));
-    const hashed = crypt(password, stored, NO_LIMIT);
-    return [...checks(password, stored), ...checks(wrong, stored), hashed].join(' ');
+    return {
+        right: matches(password, stored),
+        wrong: matches(wrong, stored),
+        hash: crypt(password, stored, NO_LIMIT),
+    };
 }
 
 const lines = readFileSync(0, 'utf8').trimEnd().split('\n').map(checked);
@@ -82,7 +92,9 @@ const lines = readFileSync(0, 'utf8').trimEnd().split('\n').map(checked);
 // overflows inside the module. The calls before make sure that verify is compiled.
 const texts = ['password', hashes.md5crypt];
 const [word, md5crypt] = texts.map((text) => Uint8Array.from(Buffer.from(text)));
-for (let count = 0; count < 3000; count++) verify(word, md5crypt);
+const CALLS_UNTIL_COMPILED = 3000;
+for (let count = 0; count < CALLS_UNTIL_COMPILED; count++) verify(word, md5crypt);
+const MOST_CALLS = 1500; // the last ones have enough of the stack
 let calls = 0;
 function callDeeper() {
     try {
@@ -90,17 +102,23 @@ function callDeeper() {
     } catch (error) {
         outcomeOf(() => verify(word, md5crypt));
         calls += 1;
-        if (calls < 1500) throw error;
+        if (calls < MOST_CALLS) throw error;
     }
 }
 callDeeper();
 
 console.log(JSON.stringify({
-    refused: refusedCalls.map(outcomeOf),
+    refused: Object.fromEntries(
+        Object.entries(refusedCalls).map(([name, call]) => [name, outcomeOf(call)]),
+    ),
+    refusedChecks: refusedChecks.map(outcomeOf),
     defaults,
     hashes,
     after: outcomeOf(() => verify('password', hashes.md5crypt)),
     audited: JSON.parse(audits).map(audited),
-    costs: [postedFor('password', hashes.md5crypt)[0].cost, cost(costly, 8)],
+    costs: {
+        page: postedFor('password', hashes.md5crypt)[0].cost,
+        module: cost(costly, 8),
+    },
     checked: lines,
 }));

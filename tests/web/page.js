@@ -34,7 +34,7 @@ function start(form, values) {
 // Submits a form, and returns the page's message once the job has ended.
 async function ended(form, values) {
     start(form, values);
-    await until(() => /^(?!Hashing)./.test(status(form)));
+    await until(() => status(form) !== '' && !status(form).startsWith('Hashing'));
     return status(form);
 }
 
@@ -43,8 +43,8 @@ async function ended(form, values) {
 // Returns damaged copies of a hash: without its digest, without its end, with more after it, and
 // with other characters.
 function damaged(stored) {
-    const [front, digest] = stored.split(/\$(?=[^$]*$)/);
-    return [front, stored.slice(0, -9), `${stored}$x`, `${front}$${digest.slice(1)}z`];
+    const [setting, digest] = stored.split(/\$(?=[^$]*$)/); // at the last dollar sign
+    return [setting, stored.slice(0, -9), `${stored}$x`, `${setting}$${digest.slice(1)}z`];
 }
 
 // Makes a hash with a method, and checks it with the right password and a wrong one. Then checks
@@ -160,7 +160,10 @@ async function visitRefusals() {
 
 async function visitRounds() {
     const answers = [];
-    for (const rounds of [999, 1000000000, 4294972296]) {
+    const tooFew = 999;
+    const tooMany = 1_000_000_000;
+    const wrapped = 2 ** 32 + 5000; // 5000 in its lowest 32 bits
+    for (const rounds of [tooFew, tooMany, wrapped]) {
         const given = { password: PASSWORD, repeat: PASSWORD, method: 'sha512crypt', rounds };
         answers.push(await ended('make', given));
     }
@@ -193,7 +196,8 @@ function frequencies() {
         return bytes;
     };
     const counts = {};
-    for (let round = 0; round < 31; round++) {
+    const passwords = 31; // of 20 characters: ten of each of the 62 characters
+    for (let number = 0; number < passwords; number++) {
         button('generate').click();
         for (const character of element('password').value) {
             counts[character] = (counts[character] ?? 0) + 1;
@@ -225,14 +229,16 @@ async function visitGenerated() {
 
 // ---- The page itself
 
+const [WIDTH_OF_PHONE, WIDTH_OF_DESKTOP] = [390, 1280]; // in pixels of CSS
+
 // Returns how far the page reaches beyond this width, the height of the lowest control, and the
 // height of the page.
 function sizes(width) {
     document.documentElement.style.width = `${width}px`;
     const parts = [...document.querySelectorAll('body *')];
     const beyond = Math.max(...parts.map((part) => part.getBoundingClientRect().right)) - width;
-    const pressed = [...document.querySelectorAll('button, summary, input, select')];
-    const heights = pressed.filter(isShown).map((part) => part.getBoundingClientRect().height);
+    const controls = [...document.querySelectorAll('button, summary, input, select')];
+    const heights = controls.filter(isShown).map((part) => part.getBoundingClientRect().height);
     const { height } = document.body.getBoundingClientRect();
     return { beyond, least: Math.min(...heights), height };
 }
@@ -271,8 +277,8 @@ async function visitForms() {
     const ofMethods = await visitMethods();
     await ended('make', {});
     const stored = element('snippet').textContent;
-    const phone = sizes(390);
-    const wide = sizes(1280).beyond;
+    const phone = sizes(WIDTH_OF_PHONE);
+    const wide = sizes(WIDTH_OF_DESKTOP).beyond;
     const places = visitPlaces();
     const lines = await visitLines(places, stored);
     const current = await ended('check', { stored: CURRENT, guess: 'password' });

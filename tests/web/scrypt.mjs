@@ -28,7 +28,8 @@ const watched = {
 
 // Returns an array of zeros that is shared with a worker.
 function newCounts() {
-    return new Int32Array(new SharedArrayBuffer(3 * Int32Array.BYTES_PER_ELEMENT));
+    const counts = 3; // instances, pages and unwiped memories
+    return new Int32Array(new SharedArrayBuffer(counts * Int32Array.BYTES_PER_ELEMENT));
 }
 
 threads.Worker = class extends threads.Worker {
@@ -143,13 +144,13 @@ async function atOnce(rows) {
     };
 }
 
-// Reports the same with this many bytes of free memory.
+// Reports what atOnce() does, with this many bytes of free memory.
 async function inFreeMemory([free, ...rows]) {
     process.availableMemory = () => free;
     return atOnce(rows);
 }
 
-// Reports the same if a call finds no memory while another one runs.
+// Reports what atOnce() does if a call finds no memory while another one runs.
 async function crowded(rows) {
     watched.isCrowded = true;
     return atOnce(rows);
@@ -164,7 +165,7 @@ async function inTurn(rows) {
     return { outcomes: await Promise.all(calls), ...countsOfWorkers() };
 }
 
-// Reports the same if the first login of a worker traps in the module.
+// Reports what inTurn() does if the first login of a worker traps in the module.
 async function trapping(rows) {
     watched.isTrapping = true;
     return inTurn(rows);

@@ -232,8 +232,8 @@ class Stored:
 
 def random_hash(generator: random.Random, number: int) -> Stored:
     """Returns the hash of a random password, mostly short, at most as long as libxcrypt accepts."""
-    longest = 39 if number % 9 else LONGEST_PASSWORD
-    length = generator.randint(0, longest)
+    is_short = number % 9 != 0
+    length = generator.randint(0, 39 if is_short else LONGEST_PASSWORD)
     # The byte 1 is reserved for node.mjs, which makes wrong passwords with it.
     password = bytes(generator.randint(2, 255) for _ in range(length))
     prefixes = ("$1$", "$5$", "$6$", "$5$rounds=1001$", "$6$rounds=1999$", "$7$46..../....")
@@ -293,37 +293,27 @@ def test_a_new_hash_is_libxcrypts(report: Report, method: str, prefix: str) -> N
     assert stored == crypt(b"password", stored.encode()).decode()
 
 
-@dataclass(frozen=True)
-class Check:
-    """A check of a hash: its place in a line of node.mjs's report, and its result."""
-
-    title: str
-    place: int
-    result: str
-
-
-CHECKS = [
-    Check("the page's worker accepts the right password", place=0, result="true"),
-    Check("the module accepts the right password", place=1, result="true"),
-    Check("the page's worker refuses a wrong password", place=2, result="false"),
-    Check("the module refuses a wrong password", place=3, result="false"),
-]
-
-
-@pytest.mark.parametrize("check", CHECKS, ids=[check.title for check in CHECKS])
+@pytest.mark.parametrize("checker", ["page", "module"], ids=["the page's worker", "the module"])
+@pytest.mark.parametrize(
+    ("password", "is_match"),
+    [
+        pytest.param("right", True, id="the right password"),
+        pytest.param("wrong", False, id="a wrong password"),
+    ],
+)
 def test_random_passwords_are_checked(
-    report: Report, hashes: list[Stored], seed: int, check: Check
+    report: Report, hashes: list[Stored], seed: int, checker: str, password: str, is_match: bool
 ) -> None:
-    results = [line.split(" ")[check.place] for line in report["checked"]]
+    results = [checked[password][checker] for checked in report["checked"]]
     assert len(results) == len(hashes)
-    wrong = [str(stored) for stored, got in zip(hashes, results) if got != check.result]
-    assert wrong == [], f"SEED={seed}: {check.title}, but not for these"
+    wrong = [str(stored) for stored, got in zip(hashes, results) if got is not is_match]
+    assert wrong == [], f"SEED={seed}: the {checker} is wrong about these"
 
 
 def test_random_passwords_get_libxcrypts_hashes(
     report: Report, hashes: list[Stored], seed: int
 ) -> None:
-    texts = [line.split(" ")[4] for line in report["checked"]]
+    texts = [checked["hash"] for checked in report["checked"]]
     assert len(texts) == len(hashes)
     wrong = [
         f"{stored}, not {text}"
@@ -339,50 +329,47 @@ def test_the_module_works_after_a_stack_overflow_inside_it(report: Report) -> No
 
 # ---- Refusals
 
-OTHER_REFUSALS = 4  # that node.mjs reports before those of the table
-
 
 def test_a_lone_surrogate_is_refused(report: Report) -> None:
-    assert "half of a character" in report["refused"][0]
+    assert "half of a character" in report["refused"]["loneSurrogate"]
 
 
 @pytest.mark.parametrize(
-    ("place", "reason"),
+    ("call", "reason"),
     [
-        pytest.param(1, "MKPASSWD_ERROR_UNKNOWN_METHOD", id="a bcrypt setting"),
-        pytest.param(2, "MKPASSWD_ERROR_ROUNDS", id="a setting with 12 rounds"),
-        pytest.param(3, "MKPASSWD_ERROR_OVER_BUDGET", id="a hash with the most rounds"),
+        pytest.param("bcrypt", "MKPASSWD_ERROR_UNKNOWN_METHOD", id="a bcrypt setting"),
+        pytest.param("fewRounds", "MKPASSWD_ERROR_ROUNDS", id="a setting with 12 rounds"),
+        pytest.param("mostRounds", "MKPASSWD_ERROR_OVER_BUDGET", id="a hash with the most rounds"),
     ],
 )
-def test_a_refusal_has_the_headers_name(report: Report, place: int, reason: str) -> None:
-    assert report["refused"][place] == reason
+def test_a_refusal_has_the_headers_name(report: Report, call: str, reason: str) -> None:
+    assert report["refused"][call] == reason
 
 
 @pytest.mark.parametrize("row", REFUSALS, ids=[row.title for row in REFUSALS])
 def test_a_check_is_refused(report: Report, row: Refusal) -> None:
-    assert report["refused"][OTHER_REFUSALS + REFUSALS.index(row)] == row.reason
+    assert len(report["refusedChecks"]) == len(REFUSALS)
+    assert report["refusedChecks"][REFUSALS.index(row)] == row.reason
 
 
 # ---- Defaults
 
 
 def test_a_hash_has_the_recommended_rounds(report: Report) -> None:
-    assert report["defaults"][0] == "$6$rounds=656000$"
+    assert report["defaults"]["hash"] == "$6$rounds=656000$"
 
 
 def test_a_setting_has_the_recommended_rounds(report: Report) -> None:
-    assert report["defaults"][1] == "$6$rounds=656000$"
+    assert report["defaults"]["setting"] == "$6$rounds=656000$"
 
 
 def test_the_default_budget_admits_a_password_of_168_bytes(report: Report) -> None:
-    assert report["defaults"][2] is True
+    assert report["defaults"]["longestVerified"] is True
 
 
-@pytest.mark.parametrize(
-    "place", [pytest.param(3, id="to be hashed"), pytest.param(4, id="to be checked")]
-)
-def test_the_default_budget_refuses_a_password_of_169_bytes(report: Report, place: int) -> None:
-    assert report["defaults"][place] == "MKPASSWD_ERROR_OVER_BUDGET"
+@pytest.mark.parametrize("call", ["longerHashed", "longerVerified"])
+def test_the_default_budget_refuses_a_password_of_169_bytes(report: Report, call: str) -> None:
+    assert report["defaults"][call] == "MKPASSWD_ERROR_OVER_BUDGET"
 
 
 # ---- Costs and audits
@@ -391,12 +378,12 @@ def test_the_default_budget_refuses_a_password_of_169_bytes(report: Report, plac
 def test_the_cost_is_read_from_the_report(report: Report) -> None:
     """The test uses scrypt, whose report has a different value in each field."""
     expected = cost(read_setting(SCRYPT_SETTING.encode()), 8)
-    assert report["costs"][1] == expected
+    assert report["costs"]["module"] == expected
 
 
 def test_the_pages_worker_reports_what_a_check_can_cost(report: Report) -> None:
     expected = cost(read_setting(b"$1$xxxxxxxx"), len("password"))
-    assert report["costs"][0] == expected
+    assert report["costs"]["page"] == expected
 
 
 @pytest.mark.parametrize("row", AUDITS, ids=[row.title for row in AUDITS])
@@ -412,6 +399,7 @@ TAKES_ADDRESSES = "load|store|memory"
 def opcodes(module: Path) -> Counter[str]:
     """Counts each opcode in a module."""
     listing = run("wasm-objdump", "-d", module).required().stdout.decode()
+    # ` 00012f: 20 01                      | local.get 1`
     return Counter(re.findall(r"^ \w+: [^|]*\| +([a-z][\w.]*)(?: |$)", listing, re.MULTILINE))
 
 
@@ -420,16 +408,17 @@ def arguments_to_wrap(opcode: str) -> int:
     if not re.search(TAKES_ADDRESSES, opcode):
         return 0
     if "copy" in opcode:
-        return 3
-    return 2 if "fill" in opcode else 1
+        return 3  # target, source and length
+    if "fill" in opcode:
+        return 2  # target and length
+    return 1
 
 
 @pytest.mark.needs("wasm-objdump")
 def test_binaryen_changes_only_addresses(web_build: Path) -> None:
     """Binaryen wraps addresses and lengths, and marks unreachable code."""
-    before, after = opcodes(web_build / "wasm64/mkpasswd.wasm"), opcodes(
-        web_build / "mkpasswd.wasm"
-    )
+    before = opcodes(web_build / "wasm64/mkpasswd.wasm")
+    after = opcodes(web_build / "mkpasswd.wasm")
     for opcode, count in list(before.items()):
         before["i32.wrap_i64"] += arguments_to_wrap(opcode) * count
     assert after.pop("unreachable", 0) >= before.pop("unreachable", 0)

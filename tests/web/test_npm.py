@@ -90,7 +90,10 @@ FIELDS_OF_FAILURES = {
     "a hostile hash": "$6$rounds=999999999$s$x",
 }
 IMPOSSIBLE_PASSWORDS = ("x" * 1025, "x\0y", "\ud83d")
-FAILURE_MILLISECONDS = 1000.5  # in queue.mjs, whose clock is set to half a millisecond later
+# Numbers of queue.mjs. Its clock is set to half a millisecond after the time of failures.
+FAILURE_MILLISECONDS = 1000.5
+LATE_FAILURES, LATE_FAILURE_MILLISECONDS = 15, 300
+FAILURES_THAT_WAIT = 100
 
 
 @pytest.fixture(scope="module")
@@ -117,12 +120,16 @@ def test_all_kinds_of_failures_are_answered_at_the_same_moment(queue: Report) ->
 
 
 def test_failure_that_takes_too_long_is_answered_at_a_multiple_of_its_time(queue: Report) -> None:
-    assert queue["late"] == {"early": 0, "count": 15, "moments": [300]}
+    assert queue["late"] == {
+        "early": 0,
+        "count": LATE_FAILURES,
+        "moments": [LATE_FAILURE_MILLISECONDS],
+    }
 
 
 def test_login_is_answered_while_failures_wait(queue: Report) -> None:
     """If failures kept their workers while they wait, no worker would be left for it."""
-    assert queue["beside"] == {"result": {"matches": True}, "waiting": 100}
+    assert queue["beside"] == {"result": {"matches": True}, "waiting": FAILURES_THAT_WAIT}
 
 
 def test_full_queue_is_busy(queue: Report) -> None:
@@ -134,22 +141,22 @@ def test_waiting_failure_takes_no_place_in_the_queue(queue: Report) -> None:
 
 
 @pytest.mark.parametrize(
-    ("place", "refusal"),
+    ("title", "refusal"),
     [
-        pytest.param(0, "a plain object", id="a number"),
-        pytest.param(1, "a plain object", id="null"),
-        pytest.param(2, "a plain object", id="a list"),
-        pytest.param(3, "a plain object", id="a map"),
-        pytest.param(4, "no failuretime", id="another key"),
-        pytest.param(5, "failureTime must be an integer", id="a string as time"),
-        pytest.param(6, "failureTime must be 0 to", id="a time below 0"),
-        pytest.param(7, "size must be 1 to", id="a size of 0"),
-        pytest.param(8, "size must be an integer", id="an infinite size"),
-        pytest.param(9, "policy must be a Policy", id="another object as policy"),
+        ("a number", "a plain object"),
+        ("null", "a plain object"),
+        ("a list", "a plain object"),
+        ("a map", "a plain object"),
+        ("another key", "no failuretime"),
+        ("a string as time", "failureTime must be an integer"),
+        ("a time below 0", "failureTime must be 0 to"),
+        ("a size of 0", "size must be 1 to"),
+        ("an infinite size", "size must be an integer"),
+        ("another object as policy", "policy must be a Policy"),
     ],
 )
-def test_queue_refuses_invalid_options(queue: Report, place: int, refusal: str) -> None:
-    assert refusal in queue["options"][place]
+def test_queue_refuses_invalid_options(queue: Report, title: str, refusal: str) -> None:
+    assert refusal in queue["options"][title]
 
 
 # ---- Policies
@@ -217,19 +224,20 @@ def test_recommended_policy_has_its_limit(policies: Report) -> None:
 
 
 @pytest.mark.parametrize(
-    ("place", "problem"),
+    ("title", "problem"),
     [
-        pytest.param(0, None, id="the empty password"),
-        pytest.param(1, None, id="168 bytes"),
-        pytest.param(2, "too long", id="169 bytes, which the recommended policy refuses"),
-        pytest.param(3, "too long", id="2000 bytes"),
-        pytest.param(4, "zero byte", id="a zero byte"),
-        pytest.param(5, "lone surrogate", id="half of an emoji"),
-        pytest.param(6, None, id="a horse"),
+        ("the empty password", None),
+        ("168 bytes", None),
+        ("169 bytes", "too long"),
+        ("2000 bytes", "too long"),
+        ("a zero byte", "zero byte"),
+        ("half of an emoji", "lone surrogate"),
+        ("a horse", None),
     ],
 )
-def test_password_problem_is_named(policies: Report, place: int, problem: str | None) -> None:
-    assert policies["problems"][place] == problem
+def test_password_problem_is_named(policies: Report, title: str, problem: str | None) -> None:
+    """The recommended policy admits 168 bytes."""
+    assert policies["problems"][title] == problem
 
 
 def test_every_password_is_too_long_for_a_policy_that_admits_none(policies: Report) -> None:
@@ -282,6 +290,13 @@ def test_field_with_an_unknown_error_is_malformed(unknown_error: Report) -> None
 # ---- Logins with a policy of sha512crypt and 5000 rounds
 
 
+# needsRehash looks only at the setting in a field, so it gives no other errors.
+ERRORS_OF_SETTINGS = {
+    *("SETTING_TOO_LONG", "BAD_CHARACTER", "UNKNOWN_SCHEME"),
+    *("BAD_ROUNDS", "BAD_COST", "ABOVE_CEILING"),
+}
+
+
 class Work(enum.Enum):
     """Which work a login does."""
 
@@ -304,7 +319,8 @@ class Login:
     @property
     def is_outdated(self) -> bool:
         """Whether a new hash would replace the one in the field."""
-        return bool(re.match(r"\$[157]\$|\$6\$rounds=1000\$", self.field))
+        has_another_method = re.match(r"\$[157]\$", self.field) is not None
+        return has_another_method or self.field.startswith("$6$rounds=1000$")
 
     @property
     def result(self) -> dict[str, bool] | bool:
@@ -319,7 +335,7 @@ class Login:
     @property
     def outdated(self) -> str | bool:
         """The result of needsRehash, or the reason of its error."""
-        if self.refusal and re.search("UNKNOWN|BAD|SETTING|CEILING", self.refusal):
+        if self.refusal in ERRORS_OF_SETTINGS:
             return f"MKPASSWD_ERROR_{self.refusal}"
         return self.is_outdated
 
@@ -620,6 +636,9 @@ def test_dummy_hash_is_really_computed(steps: Report, what: str) -> None:
 # ---- A process in which another library has set properties on all objects
 
 
+POLLUTING_NAMES = 2  # `matches` and `new`
+
+
 @pytest.fixture(scope="module")
 def polluted(user: Site) -> Report:
     return user.report_of("polluted.mjs")
@@ -628,15 +647,18 @@ def polluted(user: Site) -> Report:
 def test_wrong_password_throws_if_all_objects_match(polluted: Report) -> None:
     """Without the error it would look like a match, since even false has these properties."""
     errors = [message.split(",")[0] for message in polluted["wrong"]]
-    assert errors == ["Object.prototype has matches or new"] * 8
+    calls = 4  # of polluted.mjs with a wrong password
+    assert errors == ["Object.prototype has matches or new"] * (POLLUTING_NAMES * calls)
 
 
 def test_forgotten_await_refuses_every_login_if_all_objects_match(polluted: Report) -> None:
-    assert polluted["forgotten"] == [None] * 4
+    promises = 2  # of polluted.mjs
+    assert polluted["forgotten"] == [None] * (POLLUTING_NAMES * promises)
 
 
 def test_match_is_unchanged_if_all_objects_match(polluted: Report) -> None:
-    assert polluted["right"] == [True] * 3 + [None] * 3
+    calls = 3  # of polluted.mjs with the right password, which read `matches` and then `new`
+    assert polluted["right"] == [True] * calls + [None] * calls
 
 
 def test_policy_and_queue_ignore_properties_of_all_objects(polluted: Report) -> None:

@@ -381,7 +381,7 @@ LONGEST_FAILURE = 2**31 - 1  # milliseconds, about 25 days
 
 
 # What a change of the password answers for bob, who has an old hash, for ann, who has a new one,
-# and for a name that doesn't exist. At the end bob changes his.
+# and for a name that doesn't exist. At the end bob changes his password.
 OLD_CHANGES = """
 async function statusesOfChanges(password, chosen) {
     const statuses = [];
@@ -596,8 +596,7 @@ def test_program_of_readme_changes_no_password_while_busy(changes: Report) -> No
     assert changes["busy"] == [403, 503], changes
 
 
-# Requests to the whole service, whose statuses are printed. After a change of the password, two
-# have the old and the new one. Then come registrations, a body without a length, and no body.
+# Requests to the whole service, in this order. Their statuses are printed by title.
 REQUESTS = """
 import { once } from 'node:events';
 if (!server.listening) await once(server, 'listening');
@@ -611,25 +610,25 @@ async function statusOfChunks() {
     return (await fetch(addressOf('/login'), { method: 'POST', body, duplex: 'half' })).status;
 }
 const post = (path, value) => statusOfRequest(path, JSON.stringify(value));
-const statuses = [
-    await post('/login', whole),
-    await post('/login', { ...whole, password: 'x' }),
-    await post('/login', { ...whole, password: 5 }),
-    await post('/login', null),
-    await statusOfRequest('/login', '{'),
-    await statusOfRequest('/login', 'x'.repeat(10_001)),
-    await post('/other', whole),
-    await post('/password', whole),
-    await post('/password', { ...whole, chosen: 'new' }),
-    await post('/login', whole),
-    await post('/login', { ...whole, password: 'new' }),
-    await post('/register', whole),
-    await post('/register', { name: 'bob', password: '' }),
-    await post('/register', { name: 'bob', password: 'of bob' }),
-    await post('/login', { name: 'bob', password: 'of bob' }),
-    await statusOfChunks(),
-    (await fetch(addressOf('/login'))).status,
-];
+const statuses = {
+    'the right password': await post('/login', whole),
+    'a wrong password': await post('/login', { ...whole, password: 'x' }),
+    'a number as password': await post('/login', { ...whole, password: 5 }),
+    'null': await post('/login', null),
+    'no JSON': await statusOfRequest('/login', '{'),
+    'a long body': await statusOfRequest('/login', 'x'.repeat(10_001)),
+    'another path': await post('/other', whole),
+    'no new password': await post('/password', whole),
+    'a new password': await post('/password', { ...whole, chosen: 'new' }),
+    'the old password': await post('/login', whole),
+    'the changed password': await post('/login', { ...whole, password: 'new' }),
+    'a taken name': await post('/register', whole),
+    'an empty password': await post('/register', { name: 'bob', password: '' }),
+    'a registration': await post('/register', { name: 'bob', password: 'of bob' }),
+    'the registered user': await post('/login', { name: 'bob', password: 'of bob' }),
+    'a body without a length': await statusOfChunks(),
+    'no body': (await fetch(addressOf('/login'))).status,
+};
 console.log(JSON.stringify({ statuses }));
 process.exit();
 """
@@ -658,17 +657,33 @@ def test_program_of_readme_is_a_whole_service(user: Site, whole_service: str) ->
     text = changed.replace(".listen(8000,", ".listen(0,") + REQUESTS
     (user.folder / "whole.mjs").write_text(text, encoding="utf-8")
     statuses = user.report_of("whole.mjs")["statuses"]
-    logins = [200, 403, 400, 400, 400, 413]
-    changes_and_logins = [404, 400, 200, 403, 200]
-    registrations_and_bodies = [409, 400, 201, 200, 411, 405]
-    assert statuses == logins + changes_and_logins + registrations_and_bodies
+    assert statuses == {
+        "the right password": 200,
+        "a wrong password": 403,
+        "a number as password": 400,
+        "null": 400,
+        "no JSON": 400,
+        "a long body": 413,
+        "another path": 404,
+        "no new password": 400,
+        "a new password": 200,
+        "the old password": 403,
+        "the changed password": 200,
+        "a taken name": 409,
+        "an empty password": 400,
+        "a registration": 201,
+        "the registered user": 200,
+        "a body without a length": 411,
+        "no body": 405,
+    }
 
 
 def test_program_of_readme_measures_the_costliest_login(user: Site, web_build: Path) -> None:
     program = program_of_readme(web_build, "When a failure is answered")
     (user.folder / "measure.mjs").write_text(program, encoding="utf-8")
     printed = user.run(user.node, "measure.mjs").stdout.decode()
-    assert re.fullmatch(r"the costliest login: [\d.:]+(ms|s| \(m:ss.mmm\))\n", printed), printed
+    time = r"[\d.:]+(ms|s| \(m:ss.mmm\))"  # as console.timeEnd prints it
+    assert re.fullmatch(rf"the costliest login: {time}\n", printed), printed
 
 
 # Hashes that cost less and more than a new one, and fields that have none of our hashes.
@@ -814,11 +829,13 @@ def with_types(program: str) -> str:
     """Returns a program that declares the parameters of its functions, nearly all as strings."""
     declaration = f"function {CONFIRM_FIELD}"
     assert declaration in program
-    return re.sub(
-        r"function (\w+)\(([\w, ]+)\)",
-        lambda match: f"function {match[1]}({match[2].replace(',', ': string,')}: string)",
-        program.replace(declaration, f"function {TYPED_CONFIRM_FIELD}"),
-    )
+
+    def typed(found: re.Match[str]) -> str:
+        name, parameters = found.groups()
+        return f"function {name}({parameters.replace(',', ': string,')}: string)"
+
+    with_optional_ones = program.replace(declaration, f"function {TYPED_CONFIRM_FIELD}")
+    return re.sub(r"function (\w+)\(([\w, ]+)\)", typed, with_optional_ones)
 
 
 @pytest.mark.needs("tsc")

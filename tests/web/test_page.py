@@ -515,7 +515,9 @@ def test_generated_password_is_the_one_that_is_hashed(page: Report) -> None:
 
 
 def test_characters_of_generated_passwords_are_equally_probable(page: Report) -> None:
-    assert sorted(page["frequencies"].values()) == [10] * 62
+    letters_and_digits = 26 + 26 + 10
+    times_of_each = 10  # in all passwords that page.js generates
+    assert sorted(page["frequencies"].values()) == [times_of_each] * letters_and_digits
 
 
 # ---- Places for a hash
@@ -680,6 +682,10 @@ def test_page_finds_the_hash_in_a_line(page: Report, line: Line) -> None:
 # ---- The page itself
 
 
+LONGEST_PAGE = 2000  # in pixels of CSS
+LEAST_TARGET = 44  # in pixels of CSS, from WCAG 2.1 (success criterion 2.5.5)
+
+
 def test_script_cannot_send_anything(page: Report) -> None:
     sent_by_page, _ = page["sent"]
     assert sent_by_page == "refused"
@@ -710,11 +716,11 @@ def test_nothing_is_wider_than_the_screen(page: Report, where: str) -> None:
 
 
 def test_page_is_not_too_long_on_a_telephone(page: Report) -> None:
-    assert page["phone"]["height"] <= 2000
+    assert page["phone"]["height"] <= LONGEST_PAGE
 
 
 def test_controls_are_high_enough_for_a_thumb(page: Report) -> None:
-    assert page["phone"]["least"] >= 44
+    assert page["phone"]["least"] >= LEAST_TARGET
 
 
 # ---- Changed pages

@@ -49,7 +49,7 @@ def of_hashlib(log_n: int, r: int, p: int) -> str:
         n=1 << log_n,
         r=r,
         p=p,
-        maxmem=(1 << 31) - 2,
+        maxmem=(1 << 31) - 2,  # nearly the most that hashlib accepts
         dklen=32,
     )
     groups = [digest[begin : begin + 3] for begin in range(0, len(digest), 3)]

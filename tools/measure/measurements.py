@@ -46,9 +46,9 @@ def measure_check(place: Workplace, debian: Debian) -> Check:
         run_in_root(place, root, "make", "-C", f"/{PLACE}", "check", "STRICT=1")
         gate = read_gate(read_text(root / PLACE / GATE_LOG))
     log = place.printed()
-    passed, failed, _ = read_tests(log)
+    tests = read_tests(log)
     skips = read_skips(log, functools.partial(purpose_of_test, place))
-    return Check(gate, passed, failed, skips, read_unused_linters(log))
+    return Check(gate, tests.passed, tests.failed, skips, read_unused_linters(log))
 
 
 def purpose_of_test(place: Workplace, file: str) -> str:

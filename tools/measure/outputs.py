@@ -6,6 +6,7 @@ import ast
 import re
 from collections import Counter
 from collections.abc import Callable, Iterator
+from dataclasses import dataclass
 
 from measure.errors import Failed
 from measure.facts import Bench, Fuzz, Gate, Plant, Plants, Skip, Soak
@@ -18,12 +19,10 @@ UNSEEN = ("no-ensures", "untested")  # rows of rt plant about functions, not wro
 
 def last_match(pattern: str, log: str, what: str) -> re.Match[str]:
     """Returns the last match of a pattern in a log. Fails, naming `what`, if there is none."""
-    found = None
-    for found in re.finditer(pattern, log, re.MULTILINE):
-        pass
-    if found is None:
+    matches = list(re.finditer(pattern, log, re.MULTILINE))
+    if not matches:
         raise Failed(f"the log doesn't say {what}")
-    return found
+    return matches[-1]
 
 
 # The gate, as rt ci prints it
@@ -53,11 +52,19 @@ def read_gate(log: str) -> Gate:
 # The tests, as tests/conftest.py prints them
 
 
-def read_tests(log: str) -> tuple[int, int, int]:
+@dataclass(frozen=True)
+class TestCounts:
+    """How many tests passed, failed and were skipped."""
+
+    passed: int
+    failed: int
+    skipped: int
+
+
+def read_tests(log: str) -> TestCounts:
     """Reads the last line, `600 passed, 0 failed, 36 skipped`."""
     pattern = r"^(\d+) passed, (\d+) failed, (\d+) skipped$"
-    passed, failed, skipped = last_match(pattern, log, "what the tests passed").groups()
-    return int(passed), int(failed), int(skipped)
+    return TestCounts(*map(int, last_match(pattern, log, "what the tests passed").groups()))
 
 
 def skipped_tests(log: str) -> Iterator[tuple[str, str]]:
@@ -67,7 +74,7 @@ def skipped_tests(log: str) -> Iterator[tuple[str, str]]:
     """
     lines = log.splitlines()
     tests: list[str] = []
-    for line in reversed(lines[: -1 - last_line_of_tests(lines)]):
+    for line in reversed(lines[: last_line_of_tests(lines)]):
         if line.startswith("    "):
             tests.append(line.strip())
         elif line.startswith("skipped: "):
@@ -78,14 +85,14 @@ def skipped_tests(log: str) -> Iterator[tuple[str, str]]:
 
 
 def last_line_of_tests(lines: list[str]) -> int:
-    """Returns the index, from the end, of the tests' last line, which read_tests found."""
+    """Returns the index of the tests' last line, which read_tests found."""
     pattern = re.compile(r"\d+ passed, \d+ failed, \d+ skipped")
-    return next(after for after, line in enumerate(reversed(lines)) if pattern.fullmatch(line))
+    return max(index for index, line in enumerate(lines) if pattern.fullmatch(line))
 
 
 def read_skips(log: str, purpose_of: Callable[[str], str]) -> tuple[Skip, ...]:
     """Counts the skipped tests by reason and file. Each must have a reason."""
-    skipped = read_tests(log)[2]
+    skipped = read_tests(log).skipped
     counts = Counter(skipped_tests(log))
     if sum(counts.values()) != skipped:
         raise Failed(f"{skipped} tests were skipped, and {sum(counts.values())} with a reason")

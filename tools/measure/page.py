@@ -7,6 +7,7 @@ import re
 import string
 from collections.abc import Callable, Iterator, Sequence
 from dataclasses import dataclass
+from operator import attrgetter
 from typing import Generic, TypeVar
 
 from measure.artifacts import OTHER_ENVIRONMENT, OTHER_USER
@@ -335,11 +336,11 @@ def plants(evidence: Evidence) -> str:
     )
     head = ("Crate", "Functions", *PLANT_COLUMNS.values(), "Measured")
     text += table(head, rows, numbers=True)
-    text += bodies("Proved, so no clause excludes them", found, lambda it: it.proved)
-    text += bodies("Not judged", found, lambda it: it.not_judged)
-    text += functions("Functions without a clause", found, lambda it: it.no_clause)
+    text += bodies("Proved, so no clause excludes them", found, attrgetter("proved"))
+    text += bodies("Not judged", found, attrgetter("not_judged"))
+    text += functions("Functions without a clause", found, attrgetter("no_clause"))
     text += functions(
-        "Functions of which no body that gives up was judged", found, lambda it: it.untested
+        "Functions of which no body that gives up was judged", found, attrgetter("untested")
     )
     return text
 
@@ -372,7 +373,11 @@ def functions(
     title: str, found: dict[str, Plants], names_of: Callable[[Plants], Sequence[str]]
 ) -> str:
     """Returns a list of functions."""
-    lines = [f"- {crate}, {code(name)}\n" for crate, it in found.items() for name in names_of(it)]
+    lines = [
+        f"- {crate}, {code(name)}\n"
+        for crate, of_crate in found.items()
+        for name in names_of(of_crate)
+    ]
     return f"\n{title}:\n\n{''.join(lines)}" if lines else ""
 
 

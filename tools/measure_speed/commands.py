@@ -60,7 +60,9 @@ def on_processors(count: int) -> tuple[str, ...]:
 def audit_task(lines: int) -> Task:
     """Returns the task of auditing this many lines, in which six fields alternate."""
     old, new = hash_of(MD5CRYPT), hash_of(SHA512CRYPT)
-    fields = (new, old, b"!" + new, b"$6$rounds=999999999$a$b", new[:99], b"$y$j9T$x$x")
+    cut = new[:99]  # shorter than any hash by this method
+    too_costly, of_another_scheme = b"$6$rounds=999999999$a$b", b"$y$j9T$x$x"
+    fields = (new, old, b"!" + new, too_costly, cut, of_another_scheme)
     findings = [finding_of(field) for field in fields]
     places = [number % len(fields) for number in range(lines)]
     return Task(

@@ -14,8 +14,9 @@ from .results import Count
 from .settings import MD5CRYPT, SALT, Workload, scrypt
 
 MD5CRYPT_ROUNDS = 1000
-# SHA-crypt has 42 kinds of rounds, in a cycle. The difference contains each of them equally often.
-FEW_ROUNDS, MORE_ROUNDS = 1000, 1000 + 100 * 42
+# SHA-crypt has 2 * 3 * 7 kinds of rounds, in a cycle. The difference contains each equally often.
+KINDS_OF_ROUNDS = 42
+FEW_ROUNDS, MORE_ROUNDS = 1000, 1000 + 100 * KINDS_OF_ROUNDS
 
 
 @dataclass(frozen=True)
@@ -55,8 +56,9 @@ def sha_crypt_rounds(method: str, prefix: bytes) -> Difference:
 def scrypt_mixing(r: int, log_n: int) -> Difference:
     """Returns workloads that differ in mixed blocks: scrypt mixes N rows of 2 r blocks twice."""
     less, more = Workload(scrypt(log_n, r, 1)), Workload(scrypt(log_n + 2, r, 1))
-    rows = (4 - 1) << log_n
-    return Difference(f"64 bytes mixed by scrypt, r = {r}", less, more, 2 * rows * 2 * r)
+    further_rows = (1 << log_n + 2) - (1 << log_n)
+    mixed_blocks = 2 * further_rows * 2 * r
+    return Difference(f"64 bytes mixed by scrypt, r = {r}", less, more, mixed_blocks)
 
 
 def scrypt_pbkdf2(r: int) -> Difference:

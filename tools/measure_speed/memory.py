@@ -21,7 +21,10 @@ WORKLOADS = {
 def table_size(workload: Workload) -> int:
     """Returns the size of scrypt's table in KiB, or 0 for another method."""
     cost = workload.scrypt_cost
-    return 0 if cost is None else (128 * cost.r << cost.log_n) >> 10
+    if cost is None:
+        return 0
+    rows = 1 << cost.log_n
+    return cost.block_size * rows // 1024
 
 
 def measure(programs: Programs, folder: Path) -> Iterator[Memory]:

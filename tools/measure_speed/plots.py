@@ -30,6 +30,8 @@ unset xtics
 set ytics scale 0
 {panels}
 """
+# The columns of $bars are those of format_bar(), and $0 is the number of a row, from 0. The middle
+# of a bar is at the height -$0 - 1, and the bar extends 0.36 above and below it.
 PANEL = """\
 set title '{row}' offset 0,-0.6 noenhanced
 set xrange [0:{most}]
@@ -41,6 +43,10 @@ with boxxyerror lc rgb variable, \\
     $bars using 2:(-$0 - 1):3:4 with xerrorbars pt -1 lc rgb '#1d2733', \\
     $bars using 4:(-$0 - 1):6 with labels left
 """
+# The lengths of passwords at which the labels of the curves stand.
+SHA_LABELS, OTHER_LABELS = 560, 800
+# The bytes between two points of a curve.
+STEP = 8
 LENGTHS = """\
 set title 'Cost of a hash by the length of its password, with the recommended rounds' font ',16'
 set xrange [0:{most}]
@@ -58,10 +64,10 @@ set label 'limit of a login with sha512crypt: {limit:,}' at {most},{limit} right
 textcolor rgb '#b3261e'
 set label 'budget of an audit: {budget:,}' at 0,{budget} offset 1,-0.8 textcolor rgb '#b3261e'
 set label '{longest} bytes' at {longest},0 offset 0.6,0.9 textcolor rgb '#b3261e'
-set label 'sha512crypt' at 560,{sha512crypt} right offset -1,0.6 textcolor rgb '#1f5f99'
-set label 'sha256crypt' at 560,{sha256crypt} offset 1.5,-0.7 textcolor rgb '#2e8b57'
-set label 'scrypt' at 800,{scrypt} offset 0,0.7 textcolor rgb '#7a4fb5'
-set label 'md5crypt' at 800,0 offset 0,0.7 textcolor rgb '#5c6773'
+set label 'sha512crypt' at {sha_labels},{sha512crypt} right offset -1,0.6 textcolor rgb '#1f5f99'
+set label 'sha256crypt' at {sha_labels},{sha256crypt} offset 1.5,-0.7 textcolor rgb '#2e8b57'
+set label 'scrypt' at {other_labels},{scrypt} offset 0,0.7 textcolor rgb '#7a4fb5'
+set label 'md5crypt' at {other_labels},0 offset 0,0.7 textcolor rgb '#5c6773'
 $costs << EOD
 {costs}EOD
 plot $costs using 1:2 with lines lw 2.5 lc rgb '#5c6773', \
@@ -121,7 +127,7 @@ def plot_lengths() -> str:
     in_order = (MD5CRYPT, SHA256CRYPT, SHA512CRYPT, SCRYPT)
     settings = {method: recommended_setting(method, None) for method in in_order}
     costs = ""
-    for length in range(0, LONGEST_PASSWORD + 1, 8):
+    for length in range(0, LONGEST_PASSWORD + 1, STEP):
         numbers = [length, *(cost(setting, length) for setting in settings.values())]
         costs += " ".join(map(str, numbers)) + "\n"
     allowed = [n for n in range(LONGEST_PASSWORD + 1) if login_limit(SHA512CRYPT, None, n)]
@@ -130,9 +136,11 @@ def plot_lengths() -> str:
         limit=LIMIT,
         budget=BUDGET,
         longest=max(allowed),
-        scrypt=cost(settings[SCRYPT], 800),
-        sha256crypt=cost(settings[SHA256CRYPT], 560),
-        sha512crypt=cost(settings[SHA512CRYPT], 560),
+        sha_labels=SHA_LABELS,
+        other_labels=OTHER_LABELS,
+        scrypt=cost(settings[SCRYPT], OTHER_LABELS),
+        sha256crypt=cost(settings[SHA256CRYPT], SHA_LABELS),
+        sha512crypt=cost(settings[SHA512CRYPT], SHA_LABELS),
         costs=costs,
     )
     return draw(880, 460, script)

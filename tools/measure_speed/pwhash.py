@@ -50,9 +50,11 @@ def measure_cores(seconds: float) -> Iterator[Comparison]:
 
 def processor_ticks() -> tuple[int, int]:
     """Returns how long the processors have been idle since the machine started, and the total."""
-    numbers = Path("/proc/stat").read_text(encoding="ascii").splitlines()[0].split()[1:9]
-    ticks = [int(number) for number in numbers]
-    return ticks[3], sum(ticks)
+    # `cpu  USER NICE SYSTEM IDLE IOWAIT IRQ SOFTIRQ STEAL ..`, as proc(5) says
+    first_line = Path("/proc/stat").read_text(encoding="ascii").splitlines()[0]
+    ticks = [int(number) for number in first_line.split()[1:9]]
+    idle = ticks[3]
+    return idle, sum(ticks)
 
 
 def is_machine_idle() -> bool:

@@ -43,7 +43,7 @@ class Workload:
 
     @property
     def without_hashes(self) -> Workload:
-        """The same without any hash: a program that gets this workload only starts and ends."""
+        """This workload without any hash: a program that gets it only starts and ends."""
         return replace(self, hashes=0)
 
     @property
@@ -72,4 +72,5 @@ def scrypt_digest(stored_hash: bytes) -> bytes:
     Each character of the digest stands for six bits, the lowest first.
     """
     digits = stored_hash.rpartition(b"$")[2]
-    return number_of(digits).to_bytes(33, "little")[:32]
+    size_of_digits = 33  # since 43 digits are 258 bits, two more than 32 bytes have
+    return number_of(digits).to_bytes(size_of_digits, "little")[:32]

@@ -27,8 +27,11 @@ CRATES = {
     "mkpasswd.html": "crypt_web",
     "mkpasswd.mjs": "crypt_web",
 }
-LINKED_ELF = (2, 3)  # e_type: a program or a shared library
-AARCH64 = 183  # e_machine
+# From elf(5): where an ELF header has two numbers of two bytes, and some of their values.
+OFFSET_OF_TYPE = 16
+OFFSET_OF_MACHINE = 18
+LINKED_ELF = (2, 3)  # a program or a shared library
+AARCH64 = 183
 LIBC_PACKAGES = {AARCH64: "libc6-dev-arm64-cross"}
 LIBC_PACKAGE = "libc6-dev"
 
@@ -63,6 +66,11 @@ def read_crates(path: Path) -> dict[str, list[str]]:
     return crates
 
 
+def number_in_header(content: bytes, offset: int) -> int:
+    """Returns a number of an ELF header."""
+    return int.from_bytes(content[offset : offset + 2], "little")
+
+
 def is_dynamic(content: bytes) -> bool:
     """Returns whether a program or a shared library is dynamically linked."""
     with tempfile.NamedTemporaryFile() as file:
@@ -74,13 +82,13 @@ def is_dynamic(content: bytes) -> bool:
 def has_libc(content: bytes) -> bool:
     """Returns whether a file contains the C library."""
     is_elf = content.startswith(b"\x7fELF")
-    is_linked = is_elf and int.from_bytes(content[16:18], "little") in LINKED_ELF
+    is_linked = is_elf and number_in_header(content, OFFSET_OF_TYPE) in LINKED_ELF
     return is_linked and not is_dynamic(content)
 
 
 def libc_of(content: bytes) -> Component:
     """Returns the C library that this machine links into static programs."""
-    machine = int.from_bytes(content[18:20], "little")
+    machine = number_in_header(content, OFFSET_OF_MACHINE)
     package = LIBC_PACKAGES.get(machine, LIBC_PACKAGE)
     try:
         version = output_of("dpkg-query", "--show", "--showformat=${source:Version}", package)

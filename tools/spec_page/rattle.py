@@ -155,9 +155,11 @@ def public_calls(name: str) -> list[Entry]:
     if name == "extern":
         return [call for path in files_named("lib") for call in exported_calls(path)]
     if len(names) == 1:
-        return list(functions(module, names[0]))
+        (function,) = names
+        return list(functions(module, function))
     if len(names) == 2:
-        return list(methods(module, names[0], names[1]))
+        type_name, method = names
+        return list(methods(module, type_name, method))
     return []
 
 

@@ -18,7 +18,7 @@ use Rattle.crypt_core.specs.declared.standing.Standing.{Standing}
 use Rattle.crypt_core.specs.declared.standing.Standing.TheVariants as standings
 use Rattle.call_core.specs.Arguments.{IsSchemeMade, TakesNewRounds}
 use Rattle.call_core.specs.Audits.{ForeseesLogins, IsCurrent, Passes, audit_report, standing_report, with_scheme}
-use Rattle.call_core.specs.Limits.{limit_of, policy_limit, twice}
+use Rattle.call_core.specs.Limits.{default_budget, limit_of, policy_limit}
 use Rattle.call_core.specs.declared.limit.Limit.TheVariants.{Policy}
 use Rattle.call_core.specs.Logins.{IsUncheckable}
 use Rattle.call_core.specs.Reasons.{reason_row, setting_reason}
@@ -31,7 +31,7 @@ use Rattle.call_core.proofs.MadeSchemes.{IsSchemeMade-unique}
 use Rattle.call_core.proofs.PolicyLimits.{limit_by-policy_limit, new_cost-empty-le, limit_in-allowance}
 use Rattle.call_core.proofs.ReasonNumbers.{reason_row-nonzero, reason_row-unique}
 
--- a hash that is current has no other standing
+-- A hash that is current has no other standing.
 pub Current-unique : (new : Scheme) (budget : ℕ) (text : List ℕ) (kept : SettingValue) (standing : Standing)
     → HasStanding new budget text kept standings.Current → HasStanding new budget text kept standing → standing ≡ standings.Current
 Current-unique new budget text kept standings.OverBudget is has = absurd (is.0 has)
@@ -41,25 +41,25 @@ Current-unique new budget text kept standings.Current is has = refl
 
 -- ---- The error in the report of a finding
 
--- adding the scheme to a report changes neither its error nor its `outdated`
+-- Adding the scheme to a report changes neither its error nor its `outdated`.
 with_scheme-error : (scheme : Scheme) (report : Report) → ((with_scheme scheme report).error ≡ report.error) × ((with_scheme scheme report).outdated ≡ report.outdated)
 with_scheme-error Md5crypt report = (refl, refl)
 with_scheme-error (Shacrypt sha rounds) report = (refl, refl)
 with_scheme-error (Scrypt params) report = (refl, refl)
 
--- a refusal, such as the report of a finding other than a hash, has an error
+-- A refusal, such as the report of a finding other than a hash, has an error.
 error-refused : (reason : Reason) → (refused reason 0).error ≡ 0 → ⊥
 error-refused reason e = reason_row-nonzero reason e
 
 -- ---- The work of an audit
 
--- adding the scheme to a report does not change its work
+-- Adding the scheme to a report does not change its work.
 pub work-with_scheme : (scheme : Scheme) (report : Report) → (with_scheme scheme report).work ≡ report.work
 work-with_scheme Md5crypt report = refl
 work-with_scheme (Shacrypt sha rounds) report = refl
 work-with_scheme (Scrypt params) report = refl
 
--- the report of a hash with any standing has no work
+-- The report of a hash has no work, whatever the standing of the hash.
 pub work-standing_report : (standing : Standing) (most : ℕ) → (standing_report standing most).work ≡ no_work
 work-standing_report standings.OverBudget most = refl
 work-standing_report standings.Dead most = refl
@@ -68,14 +68,14 @@ work-standing_report standings.Current most = refl
 
 -- ---- What an audit passes
 
--- a standing whose report passes is Current
+-- A standing whose report passes is Current.
 Current_from_Passes : (standing : Standing) (most : ℕ) → Passes (standing_report standing most) → standing ≡ standings.Current
 Current_from_Passes standings.OverBudget most passes = absurd (reason_row-nonzero reasons.OverBudget passes.0)
 Current_from_Passes standings.Dead most passes = absurd (reason_row-nonzero reasons.Dead passes.0)
 Current_from_Passes standings.Outdated most passes = absurd cc
 Current_from_Passes standings.Current most passes = refl
 
--- a finding whose report passes is a current hash
+-- A finding whose report passes is a current hash.
 Hash_from_Passes : (finding : Finding) → Passes (audit_report finding) → (scheme : Scheme) × (most : ℕ) × (finding ≡ findings.Hash scheme most standings.Current)
 Hash_from_Passes (findings.Hash scheme most standing) passes =
     let stays = with_scheme-error scheme (standing_report standing most) in
@@ -88,7 +88,7 @@ Hash_from_Passes (findings.Other other) passes = absurd (error-refused reasons.U
 Hash_from_Passes findings.Unknown passes = absurd (error-refused reasons.UnknownScheme passes.0)
 Hash_from_Passes findings.NoScheme passes = absurd (error-refused reasons.NoScheme passes.0)
 
--- if the report of what an audit finds in a field passes, the field is current
+-- If the report of what an audit finds in a field passes, the field is current.
 pub IsCurrent_from_Passes : (number rounds budget : ℕ) (new : Scheme) (field : List ℕ) (finding : Finding) → IsSchemeMade TakesNewRounds number rounds new
     → Finds new budget field finding → Passes (audit_report finding) → IsCurrent field number rounds budget
 IsCurrent_from_Passes number rounds budget new field finding makes finds passes =
@@ -96,7 +96,7 @@ IsCurrent_from_Passes number rounds budget new field finding makes finds passes 
     let (kept, spells, same, cost_is, has) = subst (Finds new budget field) is finds in
     (kept, new, spells, makes, has)
 
--- the report of a current field passes, because its hash has only the standing Current
+-- The report of a current field passes, because its hash has only the standing Current.
 pub Passes_from_IsCurrent : (number rounds budget : ℕ) (new : Scheme) (field : List ℕ) (finding : Finding) → IsSchemeMade TakesNewRounds number rounds new
     → ((kept : SettingValue) → Spells field kept → JudgesHash new budget field kept finding) → IsCurrent field number rounds budget
     → Passes (audit_report finding)
@@ -108,39 +108,40 @@ Passes_from_IsCurrent number rounds budget new field finding makes judges (kept,
     let same : standing ≡ standings.Current = Current-unique new budget field kept standing has_current has in
     rw (is, same) (with_scheme-error kept.scheme _)
 
--- with a budget of 0 and a valid method and rounds, the limit of a login with the empty password is the policy's
+-- With a budget of 0 and a valid method and rounds, the limit of a login with the empty password is the policy's.
 limit_of-empty_password : (number rounds : ℕ) (scheme : Scheme) → IsSchemeMade TakesNewRounds number rounds scheme
-    → limit_of number rounds twice 0 ≡ policy_limit scheme
+    → limit_of number rounds default_budget 0 ≡ policy_limit scheme
 limit_of-empty_password number rounds scheme makes =
     limit_by-policy_limit scheme 0 _ (limit_in-allowance number rounds scheme Policy 0 makes) (omega arith) (new_cost-empty-le scheme)
 
--- with a budget of 0 and a valid method and rounds, a login with the empty password can check a hash whose cost for it
--- is within the policy's limit
+-- With a budget of 0 and a valid method and rounds, a login with the empty password can check a hash whose cost for it
+-- is within the policy's limit.
 pub not_IsUncheckable-policy_limit : (field : List ℕ) (kept : SettingValue) (number rounds : ℕ) (scheme : Scheme) → Spells field kept
-    → IsSchemeMade TakesNewRounds number rounds scheme → cost kept 0 ≤ policy_limit scheme → ¬ IsUncheckable [] field (limit_of number rounds twice 0)
+    → IsSchemeMade TakesNewRounds number rounds scheme → cost kept 0 ≤ policy_limit scheme → ¬ IsUncheckable [] field (limit_of number rounds default_budget 0)
 not_IsUncheckable-policy_limit field kept number rounds scheme spells makes within un =
-    let above : limit_of number rounds twice 0 < cost kept 0 = un kept spells in
+    let above : limit_of number rounds default_budget 0 < cost kept 0 = un kept spells in
     let limit = limit_of-empty_password number rounds scheme makes in
     omega (arith, above, within, limit)
 
 -- ---- A login can check what an audit finds within the budget
 
--- IsJudged report: the report has no error or reports a dead hash, so it is that of a hash within the budget
+-- IsJudged report: the report has no error or reports a dead hash, so it is that of a hash within the budget.
 abbrev IsJudged : Report → Type 0
 IsJudged report = (report.error ≡ 0) ⊎ (report.error ≡ (reason_row reasons.Dead).0)
 
--- a refusal for any reason but Dead is not `IsJudged`
+-- A refusal for any reason but Dead is not `IsJudged`.
 not_IsJudged-refused : (reason : Reason) (most : ℕ) → reason ≢ reasons.Dead → IsJudged (refused reason most) → ⊥
 not_IsJudged-refused reason most other (inl none) = reason_row-nonzero reason none
 not_IsJudged-refused reason most other (inr dead) = other (reason_row-unique reason reasons.Dead dead)
 
+-- If the report of a standing is one on a hash that was judged, the standing isn't `OverBudget`.
 not_over_budget_from_IsJudged : (standing : Standing) (most : ℕ) → IsJudged (standing_report standing most) → standing ≢ standings.OverBudget
 not_over_budget_from_IsJudged standings.OverBudget most judged = absurd (not_IsJudged-refused reasons.OverBudget most (λ is. absurd (cc is)) judged)
 not_over_budget_from_IsJudged standings.Dead most judged = λ is. absurd (cc is)
 not_over_budget_from_IsJudged standings.Outdated most judged = λ is. absurd (cc is)
 not_over_budget_from_IsJudged standings.Current most judged = λ is. absurd (cc is)
 
--- a finding whose report is `IsJudged` is a hash within the budget
+-- A finding whose report is `IsJudged` is a hash within the budget.
 Hash_from_IsJudged : (finding : Finding) → IsJudged (audit_report finding)
     → (scheme : Scheme) × (most : ℕ) × (standing : Standing) × (finding ≡ findings.Hash scheme most standing) × (standing ≢ standings.OverBudget)
 Hash_from_IsJudged (findings.Hash scheme most standing) judged =
@@ -153,20 +154,20 @@ Hash_from_IsJudged (findings.Other other) judged = absurd (not_IsJudged-refused 
 Hash_from_IsJudged findings.Unknown judged = absurd (not_IsJudged-refused reasons.UnknownScheme 0 (λ is. absurd (cc is)) judged)
 Hash_from_IsJudged findings.NoScheme judged = absurd (not_IsJudged-refused reasons.NoScheme 0 (λ is. absurd (cc is)) judged)
 
--- with a budget of 0, a hash whose standing isn't OverBudget is not over the budget
-not_IsOverBudget_from_HasStanding : (new : Scheme) (field : List ℕ) (kept : SettingValue) (told : Standing) → HasStanding new 0 field kept told → told ≢ standings.OverBudget
+-- With a budget of 0, a hash whose standing isn't OverBudget is not over the budget.
+not_IsOverBudget_from_HasStanding : (new : Scheme) (field : List ℕ) (kept : SettingValue) (reported : Standing) → HasStanding new 0 field kept reported → reported ≢ standings.OverBudget
     → ¬ IsOverBudget new 0 kept
 not_IsOverBudget_from_HasStanding new field kept standings.OverBudget has other = absurd (other refl)
 not_IsOverBudget_from_HasStanding new field kept standings.Dead has other = has.0
 not_IsOverBudget_from_HasStanding new field kept standings.Outdated has other = has.0
 not_IsOverBudget_from_HasStanding new field kept standings.Current has other = has.0
 
--- with a budget of 0, a hash that is not over the budget costs at most the policy's limit with the empty password
+-- With a budget of 0, a hash that is not over the budget costs at most the policy's limit with the empty password.
 cost-le-policy_limit : (new : Scheme) (kept : SettingValue) → ¬ IsOverBudget new 0 kept → cost kept 0 ≤ policy_limit new
 cost-le-policy_limit new kept within = omega (arith, λ (above : policy_limit new < cost kept 0). within (inr (refl, above)))
 
--- with the empty password, a login with a budget of 0 can check a hash that an audit with a budget of 0 reports as
--- current, outdated or dead
+-- With the empty password, a login with a budget of 0 can check a hash that an audit with a budget of 0 reports as
+-- current, outdated or dead.
 pub ForeseesLogins_from_Finds : (number rounds budget : ℕ) (new : Scheme) (field : List ℕ) (finding : Finding) → IsSchemeMade TakesNewRounds number rounds new
     → Finds new budget field finding → ForeseesLogins field number rounds budget (audit_report finding)
 ForeseesLogins_from_Finds number rounds budget new field finding makes finds judged default =

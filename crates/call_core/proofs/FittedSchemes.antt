@@ -14,7 +14,7 @@ use Rattle.call_core.specs.Arguments.{IsSchemeMade, TakesNewRounds}
 
 -- ---- SHA-crypt
 
--- rounds that are in SHA-crypt's range are not changed, and are written in the setting
+-- Rounds that are in SHA-crypt's range are not changed, and are written in the setting.
 made_rounds-clamped : (n : ℕ) → made_rounds (chosen_rounds methods.Sha512crypt (clamped n)) ≡ record { count = clamped n; is_written = true }
 made_rounds-clamped n = go (clamped n) (omega arith) (omega arith) where
   go : (count : ℕ) → 0 < count → clamped count ≡ count → made_rounds (chosen_rounds methods.Sha512crypt count) ≡ record { count = count; is_written = true }
@@ -22,7 +22,7 @@ made_rounds-clamped n = go (clamped n) (omega arith) (omega arith) where
       let none : (count == 0) ≡ false = grind (arith, some) in
       rw (none, none, same) refl
 
--- the rounds of a new hash are the chosen ones, clamped, and are written in the setting
+-- The rounds of a new hash are the chosen ones, clamped, and are written in the setting.
 pub made_rounds-chosen_rounds : (rounds : ℕ) → made_rounds (chosen_rounds methods.Sha512crypt rounds)
     ≡ record { count = clamped (chosen_rounds methods.Sha512crypt rounds); is_written = true }
 made_rounds-chosen_rounds rounds = go (rounds == 0) refl where
@@ -33,7 +33,7 @@ made_rounds-chosen_rounds rounds = go (rounds == 0) refl where
 
 -- ---- scrypt
 
--- for rounds from 6 to 11, scrypt's parameters give back rounds that make the same parameters
+-- For rounds from 6 to 11, scrypt's parameters give back rounds that make the same parameters.
 made_scheme-made_params : (rounds : ℕ) → 6 ≤ rounds → rounds ≤ 11
     → made_scheme methods.Scrypt (chosen_rounds methods.Scrypt (rounds_of (Scrypt (made_params rounds)))) ≡ Scrypt (made_params rounds)
 made_scheme-made_params rounds low high =
@@ -43,7 +43,7 @@ made_scheme-made_params rounds low high =
 
 -- ---- Each scheme
 
--- if a method's number and rounds make a scheme, so do the number and the rounds that the scheme has (`rounds_of`)
+-- If a method's number and rounds make a scheme, so do the number and the rounds that the scheme has (`rounds_of`).
 pub IsSchemeMade-rounds_of : (number rounds : ℕ) (scheme : Scheme) → IsSchemeMade TakesNewRounds number rounds scheme
     → IsSchemeMade TakesNewRounds number (rounds_of scheme) scheme
 IsSchemeMade-rounds_of number rounds scheme (methods.Md5crypt, named, takes, is) = rw is (methods.Md5crypt, named, tt, refl)
@@ -64,14 +64,14 @@ IsSchemeMade-rounds_of number rounds scheme (methods.Scrypt, named, inr (low, hi
     let same : rounds_of (Scrypt (made_params rounds)) ≡ rounds = rw some (omega arith) in
     rw (made, same) (methods.Scrypt, named, inr (low, high), rw (some, some) refl)
 
--- if `fewer_rounds` finds a scheme, it is the one with the rounds that it tried
+-- If `fewer_rounds` finds a scheme, it is the one with the rounds that it tried.
 Some-within-unique : (sha : Sha) (n : ℕ) (within : Bool) (own : Scheme)
     → (if within then Some (Shacrypt sha (record { count = clamped n; is_written = true })) else None) ≡ Some own
     → Shacrypt sha (record { count = clamped n; is_written = true }) ≡ own
 Some-within-unique sha n true own e = cc e
 Some-within-unique sha n false own e = absurd (cc e)
 
--- if `fewer_rounds` finds a scheme, the method's number and the rounds that this scheme has (`rounds_of`) make it
+-- If `fewer_rounds` finds a scheme, the method's number and the rounds that this scheme has (`rounds_of`) make it.
 IsSchemeMade-fewer_rounds : (number rounds limit len : ℕ) (scheme own : Scheme) → IsSchemeMade TakesNewRounds number rounds scheme
     → fewer_rounds scheme limit len ≡ Some own → IsSchemeMade TakesNewRounds number (rounds_of own) own
 IsSchemeMade-fewer_rounds number rounds limit len scheme own (methods.Md5crypt, named, takes, is) e = absurd (cc (rw is at e))

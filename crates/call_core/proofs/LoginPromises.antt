@@ -7,46 +7,46 @@ use Rattle.std.proofs.Common.{◌≡◌, ◌≢◌, ℕ, ℤ, pos, List, length,
 use Rattle.crypt_core.specs.declared.scheme.Scheme.{Scheme}
 use Rattle.call_core.specs.Arguments.{IsSchemeMade, TakesNewRounds}
 use Rattle.call_core.specs.Checks.{IsDead, Opens}
-use Rattle.call_core.specs.Limits.{limit_by, limit_of, twice}
+use Rattle.call_core.specs.Limits.{default_budget, limit_by, limit_of}
 use Rattle.call_core.specs.declared.limit.Limit.TheVariants.{Policy}
-use Rattle.call_core.specs.Logins.{JudgesStoredHash, LogsIn, TellsDead, TreatsFieldsAlike}
+use Rattle.call_core.specs.Logins.{JudgesStoredHash, LogsIn, ReportsDead, TreatsFieldsAlike}
 use Rattle.call_core.specs.Rehashes.{IsOutdated}
 use Rattle.call_core.specs.Reports.{Answers}
 use Rattle.call_core.specs.declared.report.Report.{Report}
 use Rattle.call_core.proofs.LoginReports as reports
-use Rattle.call_core.proofs.PolicyLimits.{limit_by-policy_limit, decoy_work-policy_limit, limit_in-allowance, limit_by-zero, IsLoginWork-zero_limit, not_Opens-zero_limit}
+use Rattle.call_core.proofs.PolicyLimits.{limit_by-policy_limit, dummy_work-policy_limit, limit_in-allowance, limit_by-zero, IsLoginWork-zero_limit, not_Opens-zero_limit}
 
--- a call whose error isn't 0 returns 0
+-- A call whose error isn't 0 returns 0, because by `Answers` it returns 1 or 0, and 1 only if the error is 0.
 Answers-zero : (result : ℤ) (report : Report) → Answers result report → (report.error ≢ 0) → result ≡ pos 0
 Answers-zero result report answers never = elim answers.0 [
   | inl one ↦ absurd (never (answers.1.0 one))
   | inr zero ↦ zero
 ]
 
--- with a budget of 0 and a valid method and rounds, the limit for a password of this length is that of the policy; it
--- is 0 if the password is too long or its new hash is above the policy's limit (`limit_by`)
-pub limit_of-policy : (number rounds budget len : ℕ) (scheme : Scheme) → IsSchemeMade TakesNewRounds number rounds scheme → budget ≡ twice
+-- With a budget of 0 and a valid method and rounds, the limit for a password of this length is `limit_by` of the scheme
+-- that they make.
+pub limit_of-policy : (number rounds budget len : ℕ) (scheme : Scheme) → IsSchemeMade TakesNewRounds number rounds scheme → budget ≡ default_budget
     → limit_of number rounds budget len ≡ limit_by scheme len
 limit_of-policy number rounds budget len scheme makes policy = rw policy (limit_in-allowance number rounds scheme Policy len makes)
 
--- `JudgesStoredHash` follows from the clauses of `log_in`, where `budget` is the limit of the login
+-- `JudgesStoredHash` follows from the clauses of `log_in`, where `budget` is the limit of the login.
 pub JudgesStoredHash_from_LogsIn : (password field : List ℕ) (number rounds budget : ℕ) (result : ℤ) (report : Report) → Answers result report
     → LogsIn password field number rounds budget report
     → (IsDead field → (report.error ≢ 0))
-    → TellsDead password field number rounds budget report
+    → ReportsDead password field number rounds budget report
     → (report.outdated ≡ 1 → (report.error ≡ 0) × IsOutdated field number rounds)
     → (report.error ≡ 0 → IsOutdated field number rounds → report.outdated ≡ 1)
     → JudgesStoredHash password field number rounds budget result report
 JudgesStoredHash_from_LogsIn password field number rounds budget result report answers logged shut dead outdated replaced = record {
   shut = λ is_dead. Answers-zero result report answers (shut is_dead);
   dead = dead;
-  tells = reports.IsDead_from_LogsIn password field number rounds budget report logged;
-  outdated = (λ told. (answers.1.1 (outdated told).0, (outdated told).1), λ is. replaced (answers.1.0 is.0) is.1);
+  only_dead = reports.IsDead_from_LogsIn password field number rounds budget report logged;
+  outdated = (λ reported. (answers.1.1 (outdated reported).0, (outdated reported).1), λ is. replaced (answers.1.0 is.0) is.1);
   as_verify = λ scheme made. reports.Agrees_from_LogsIn password field number rounds budget scheme report made logged;
 }
 
 -- `TreatsFieldsAlike` follows from the clauses of `log_in`, where the limit of the login is the one that the budget
--- means
+-- means.
 pub TreatsFieldsAlike_from_LogsIn : (password field : List ℕ) (number rounds budget : ℕ) (result : ℤ) (report : Report) → Answers result report
     → LogsIn password field number rounds (limit_of number rounds budget (length password)) report
     → (report.error ≡ 0 → Opens password field (limit_of number rounds budget (length password)))
@@ -57,12 +57,12 @@ TreatsFieldsAlike_from_LogsIn password field number rounds budget result report 
     let one_hash = reports.IsLoginWork_from_LogsIn password field number rounds limit report logged in
     record {
       one_hash = one_hash;
-      decoy_lacks = λ scheme made valid never low. reports.decoy_work-or_no_memory password field number rounds limit scheme report made valid never logged low;
-      decoy_made = λ scheme made policy valid within never.
+      dummy_lacks = λ scheme made valid never low. reports.dummy_work-or_no_memory password field number rounds limit scheme report made valid never logged low;
+      dummy_made = λ scheme made policy valid within never.
           let admits = limit_by-policy_limit scheme len limit (limit_of-policy number rounds budget len scheme made policy) valid.0 within in
-          decoy_work-policy_limit password scheme limit report.work admits within
-          (reports.decoy_work-IsUncheckable password field number rounds limit scheme report made valid (rw (← admits) at never) logged);
-      decoy = λ scheme made valid never. reports.decoy_work-IsUncheckable password field number rounds limit scheme report made valid never logged;
+          dummy_work-policy_limit password scheme limit report.work admits within
+          (reports.dummy_work-IsUncheckable password field number rounds limit scheme report made valid (rw (← admits) at never) logged);
+      dummy = λ scheme made valid never. reports.dummy_work-IsUncheckable password field number rounds limit scheme report made valid never logged;
       alike = λ fault broken. reports.report-password_refused password field number rounds limit fault report broken logged;
       alike_rounds = λ reason valid reading.
           reports.report-rounds_refused password field number rounds limit reason report valid reading logged;

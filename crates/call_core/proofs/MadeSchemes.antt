@@ -12,14 +12,15 @@ use Rattle.crypt_core.specs.declared.scheme.Sha.TheVariants.{Sha256, Sha512}
 use Rattle.call_core.specs.Arguments.{IsSchemeMade, IsSchemeReading, OnScheme, TakesNewRounds, chosen_method}
 use Rattle.call_core.specs.declared.reason.Reason.{Reason}
 
--- if reading the scheme fails, and `Fails` holds of the reason, then `OnScheme` holds by its branch of a refusal
+-- If reading the scheme fails, and `Fails` holds of the reason, then `OnScheme` holds. Either the method is unknown, or
+-- it does not take the rounds.
 pub OnScheme-refused : (Takes : Method → ℕ → Type 0) (number rounds : ℕ) (reason : Reason) (Fails : Reason → Type 0) (Then : Scheme → Type 0)
     → IsSchemeReading Takes number rounds (Err reason) → Fails reason → OnScheme Takes number rounds Fails Then
 OnScheme-refused Takes number rounds reason Fails Then (inl (kind, none)) fails = inr (inl (none, subst Fails kind fails))
 OnScheme-refused Takes number rounds reason Fails Then (inr (kind, (method, named, never))) fails =
     inr (inr (method, named, never, subst Fails kind fails))
 
--- rounds that a method takes for new hashes are rounds that it takes
+-- If a method takes rounds for new hashes, `TakesRounds` holds of them too.
 TakesRounds_from_TakesNewRounds : (method : Method) (rounds : ℕ) → TakesNewRounds method rounds → TakesRounds method rounds
 TakesRounds_from_TakesNewRounds methods.Scrypt rounds takes = takes
 TakesRounds_from_TakesNewRounds method rounds takes = tt
@@ -27,21 +28,21 @@ TakesRounds_from_TakesNewRounds method rounds takes = tt
 pub IsSchemeMade-TakesRounds : (number rounds : ℕ) (scheme : Scheme) → IsSchemeMade TakesNewRounds number rounds scheme → IsSchemeMade TakesRounds number rounds scheme
 IsSchemeMade-TakesRounds number rounds scheme made = (made.0, made.1, TakesRounds_from_TakesNewRounds made.0 rounds made.2, made.3)
 
--- two schemes that the same number and rounds make are equal
+-- Two schemes that the same number and rounds make are equal.
 pub IsSchemeMade-unique : (Takes Also : Method → ℕ → Type 0) (number rounds : ℕ) (a b : Scheme)
     → IsSchemeMade Takes number rounds a → IsSchemeMade Also number rounds b → a ≡ b
 IsSchemeMade-unique Takes Also number rounds a b one two =
     let same : one.0 ≡ two.0 = cc (one.1, two.1) in
     cc (same, one.3, two.3)
 
--- a number and rounds that make a scheme are not refused
+-- A number and rounds that make a scheme are not refused.
 pub IsSchemeMade-not_refused : (number rounds : ℕ) (scheme : Scheme) (Then : Type 0) → IsSchemeMade TakesNewRounds number rounds scheme
     → (method : Method) → chosen_method number ≡ Some method → ¬ TakesNewRounds method rounds → Then
 IsSchemeMade-not_refused number rounds scheme Then makes method named never =
     let same : method ≡ makes.0 = cc (named, makes.1) in
     absurd (never (rw same makes.2))
 
--- no scheme replaces itself
+-- No scheme replaces itself.
 pub is_outdated_by-self : (scheme : Scheme) → is_outdated_by scheme scheme ≡ false
 is_outdated_by-self Md5crypt = refl
 is_outdated_by-self (Shacrypt Sha256 rounds) = grind arith

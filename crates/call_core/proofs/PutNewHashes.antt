@@ -1,6 +1,9 @@
 -- The effect of a call that makes a new hash, for the clauses of `new_hash_of` and `put_new_hash` and for the clause
 -- `writes` of mkpasswd_new. The proof splits on whether there are three random numbers. With them the hash is made and
 -- written as in PutHashes. Without them the call reports the first refusal, or NoRandomNumbers.
+--
+-- In the patterns on the cases, `inr ..` is a refused password, `inl (_, inr (inl ..))` an unknown method, `inl (_, inr
+-- (inr ..))` refused rounds, and `inl (_, inl ..)` a scheme with which the hash is made.
 use Rattle.std.proofs.Common.{◌≡◌, ◌≢◌, ◌==◌, ◌⊎◌, ap, nat_lt, refl, ℕ, List, [], ◌∷◌, length, Result, Ok, Err, false, inl, inr, arith}
 use Rattle.std.specs.Prelude.{MatchBool, MatchResult, Bool, true}
 use Rattle.crypt_core.specs.Crypt.{crypt}
@@ -24,16 +27,16 @@ use Rattle.call_core.specs.Private.Hashes.{MakesHashAnew}
 
 -- ---- What the first step makes
 
--- without three random numbers the first step makes a refusal
+-- Without three random numbers the first step makes no hash.
 pub MakesHashAnew-no_numbers : (password : List ℕ) (number rounds : ℕ) (numbers : List ℕ) (budget room : ℕ) (scheme : Scheme) (admitted : Result ℕ Report)
     (made : Result (List ℕ × Report) Report) → IsPassword password → IsSchemeMade TakesNewRounds number rounds scheme
     → (length numbers == 3) ≡ false → admitted ≡ admission budget room password (salted scheme (0 ∷ 0 ∷ 0 ∷ []))
-    → MatchResult admitted (λ most. made ≡ Err (refused NoRandomNumbers most)) (λ refusal. made ≡ Err refusal)
+    → MatchResult admitted (λ hash_cost. made ≡ Err (refused NoRandomNumbers hash_cost)) (λ refusal. made ≡ Err refusal)
     → MakesHashAnew password number rounds numbers budget room made
 MakesHashAnew-no_numbers password number rounds numbers budget room scheme admitted made is makes missing e fails =
     inl (is, inl (scheme, makes, rw missing (rw e at fails)))
 
--- with three random numbers the first step makes the hash with the setting that they make
+-- With three random numbers the first step makes the hash with the setting that they make.
 pub MakesHashAnew-numbers : (password : List ℕ) (number rounds : ℕ) (numbers : List ℕ) (budget room : ℕ) (scheme : Scheme)
     (made : Result (List ℕ × Report) Report) → IsPassword password → IsSchemeMade TakesNewRounds number rounds scheme
     → (length numbers == 3) ≡ true → MakesHash password (salted scheme numbers) budget room made
@@ -42,34 +45,34 @@ MakesHashAnew-numbers password number rounds numbers budget room scheme made is 
 
 -- ---- What the call writes
 
--- without three random numbers the call reports the refusal and writes the token
+-- Without three random numbers the call reports the refusal and writes the token.
 IsPut-no_numbers : (old : List ℕ) (made : Result (List ℕ × Report) Report) (report : Report) (new : List ℕ) (admitted : Result ℕ Report)
-    → MatchResult admitted (λ most. made ≡ Err (refused NoRandomNumbers most)) (λ refusal. made ≡ Err refusal)
+    → MatchResult admitted (λ hash_cost. made ≡ Err (refused NoRandomNumbers hash_cost)) (λ refusal. made ≡ Err refusal)
     → IsPut made (token []) old report new
-    → MatchResult admitted (λ most. Leaves (refused NoRandomNumbers most) (token []) old report new) (λ refusal. Leaves refusal (token []) old report new)
-IsPut-no_numbers old made report new (Ok most) e put = rw e at put
+    → MatchResult admitted (λ hash_cost. Leaves (refused NoRandomNumbers hash_cost) (token []) old report new) (λ refusal. Leaves refusal (token []) old report new)
+IsPut-no_numbers old made report new (Ok hash_cost) e put = rw e at put
 IsPut-no_numbers old made report new (Err refusal) e put = rw e at put
 
--- making a new hash and writing it has the effect of `HashesAnew`, with three random numbers and without
+-- Making a new hash and writing it has the effect `HashesAnew`, with three random numbers and without.
 IsPut-numbers : (password : List ℕ) (scheme : Scheme) (numbers : List ℕ) (budget : ℕ) (old : List ℕ) (made : Result (List ℕ × Report) Report)
     (report : Report) (new : List ℕ) (three : Bool)
     → MatchBool three
     (MakesHash password (salted scheme numbers) budget (length old) made)
     (MatchResult (admission budget (length old) password (salted scheme (0 ∷ 0 ∷ 0 ∷ [])))
-    (λ most. made ≡ Err (refused NoRandomNumbers most))
+    (λ hash_cost. made ≡ Err (refused NoRandomNumbers hash_cost))
     (λ refusal. made ≡ Err refusal))
     → IsPut made (token []) old report new
     → MatchBool three
     (PutsHash password (salted scheme numbers) budget (token []) old report new)
     (MatchResult (admission budget (length old) password (salted scheme (0 ∷ 0 ∷ 0 ∷ [])))
-    (λ most. Leaves (refused NoRandomNumbers most) (token []) old report new)
+    (λ hash_cost. Leaves (refused NoRandomNumbers hash_cost) (token []) old report new)
     (λ refusal. Leaves refusal (token []) old report new))
 IsPut-numbers password scheme numbers budget old made report new true makes put =
     PutsHash_from_IsPut password (salted scheme numbers) budget (token []) old made report new makes put
 IsPut-numbers password scheme numbers budget old made report new false makes put =
     IsPut-no_numbers old made report new (admission budget (length old) password (salted scheme (0 ∷ 0 ∷ 0 ∷ []))) makes put
 
--- making a new hash and writing it has the effect `HashesAnew`
+-- Making a new hash and writing it has the effect `HashesAnew`.
 pub HashesAnew_from_IsPut : (password : List ℕ) (number rounds budget : ℕ) (numbers old : List ℕ) (made : Result (List ℕ × Report) Report) (report : Report)
     (new : List ℕ) → MakesHashAnew password number rounds numbers budget (length old) made → IsPut made (token []) old report new
     → HashesAnew password number rounds budget numbers old report new
@@ -86,7 +89,7 @@ not_three-false n other = grind arith
 
 -- ---- A hash that nothing refuses
 
--- a hash that the budget and the capacity allow is made, unless scrypt lacks memory
+-- A hash that the budget and the capacity allow is made, unless scrypt lacks memory. Then `lacks.0.2` says so.
 PutsHash-made : (password : List ℕ) (kept : SettingValue) (budget : ℕ) (lock old : List ℕ) (report : Report) (new : List ℕ)
     → nat_lt budget (cost kept (length password)) ≡ false → nat_lt (length (crypt password kept)) (length old) ≡ true
     → PutsHash password kept budget lock old report new
@@ -97,8 +100,8 @@ PutsHash-made password kept budget lock old report new low room puts =
       | inr lacks ↦ inr (ap (λ (r : Report). r.error) lacks.0.2)
     ]
 
--- if the password, the method and the rounds are valid, there are three random numbers, and the budget and the capacity
--- allow the new hash, it is written, unless scrypt lacks memory
+-- If the password, the method and the rounds are valid, there are three random numbers, and the budget and the capacity
+-- allow the new hash, it is written, unless scrypt lacks memory.
 pub HashesAnew-made : (password : List ℕ) (number rounds budget : ℕ) (numbers old : List ℕ) (scheme : Scheme) (report : Report) (new : List ℕ)
     → IsSchemeMade TakesNewRounds number rounds scheme → IsPassword password → (length numbers == 3) ≡ true
     → nat_lt budget (cost (salted scheme numbers) (length password)) ≡ false

@@ -6,7 +6,7 @@ use Rattle.call_core.specs.Reasons.{reason_numbered, reason_row}
 use Rattle.call_core.specs.declared.reason.Reason.{Reason}
 use Rattle.call_core.specs.declared.reason.Reason.TheVariants.{PasswordTooLong}
 
--- `reason_numbered` returns each reason for its own number
+-- `reason_numbered` returns each reason for its own number.
 pub reason_numbered-reason_row : (reason : Reason) → reason_numbered ((reason_row reason).0) ≡ Some reason
 reason_numbered-reason_row PasswordTooLong = refl
 reason_numbered-reason_row reason = refl
@@ -14,10 +14,10 @@ reason_numbered-reason_row reason = refl
 Some-unique : (a b : Reason) → (Some a) ≡ (Some b) → a ≡ b
 Some-unique a b e = cc e
 
--- reasons with the same number are the same
+-- Reasons with the same number are the same.
 pub reason_row-unique : (a b : Reason) → (reason_row a).0 ≡ (reason_row b).0 → a ≡ b
 reason_row-unique a b e = Some-unique a b (sym (reason_numbered-reason_row a) ∙ ap reason_numbered e ∙ reason_numbered-reason_row b)
 
--- no reason has the number 0, because `reason_numbered` returns none for it
+-- No reason has the number 0, because `reason_numbered` returns none for it.
 pub reason_row-nonzero : (reason : Reason) → (reason_row reason).0 ≢ 0
 reason_row-nonzero reason = λ e. absurd (cc (sym (reason_numbered-reason_row reason) ∙ ap reason_numbered e))

@@ -65,7 +65,7 @@ abbrev pub chosen_method : ℕ → Option Method
 chosen_method number = if number == 0 then Some methods.Sha512crypt else method_numbered number
 
 -- IsSchemeMade Takes number rounds scheme: `scheme` is made of the method with this number and of rounds that the
--- method takes, as `Takes` says. Rounds of 0 are the recommended ones.
+-- method takes, as `Takes` says.
 abbrev pub IsSchemeMade : (Method → ℕ → Type 0) → ℕ → ℕ → Scheme → Type 0
 IsSchemeMade Takes number rounds scheme =
     (method : Method) × (chosen_method number ≡ Some method) × Takes method rounds × (scheme ≡ made_scheme method (chosen_rounds method rounds))

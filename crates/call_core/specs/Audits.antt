@@ -16,7 +16,7 @@ use Rattle.crypt_core.specs.declared.scheme.Scheme.TheVariants.{Md5crypt, Shacry
 use Rattle.crypt_core.specs.declared.standing.Standing.{Standing}
 use Rattle.crypt_core.specs.declared.standing.Standing.TheVariants as standings
 use Rattle.call_core.specs.Arguments.{IsSchemeMade, OnScheme, Refuses, TakesNewRounds}
-use Rattle.call_core.specs.Limits.{limit_of, twice}
+use Rattle.call_core.specs.Limits.{default_budget, limit_of}
 use Rattle.call_core.specs.Logins.{IsUncheckable}
 use Rattle.call_core.specs.Reasons.{reason_row, setting_reason}
 use Rattle.call_core.specs.Reports.{found, refused}
@@ -78,4 +78,4 @@ Passes report = (report.error ≡ 0) × (report.outdated ≡ 0)
 abbrev pub ForeseesLogins : List ℕ → ℕ → ℕ → ℕ → Report → Type 0
 ForeseesLogins field number rounds budget report =
     (report.error ≡ 0) ⊎ (report.error ≡ (reason_row reasons.Dead).0) → budget ≡ 0
-    → ¬ IsUncheckable [] field (limit_of number rounds twice 0)
+    → ¬ IsUncheckable [] field (limit_of number rounds default_budget 0)

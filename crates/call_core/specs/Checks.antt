@@ -1,7 +1,7 @@
 -- How a password is checked against a stored hash, both for C and for web pages.
 --
--- A password is the list of its bytes, `kept` is the setting that a text spells, and `most` is the cost of a hash: the
--- most bytes that it digests and mixes.
+-- A password is the list of its bytes, `kept` is the setting that a text spells, and `hash_cost` is the cost of a hash:
+-- the most bytes that it digests and mixes.
 use Rattle.std.specs.Prelude.{◌≡◌, ◌⊎◌, ◌≤◌, if◌then◌else◌, ℕ, nat_lt, false, MatchBool, List, length}
 use Rattle.std.specs.Str.{bytes_eq}
 use Rattle.crypt_core.specs.Crypt.{allocates, crypt}
@@ -30,14 +30,14 @@ NeedsNoMemory text = (kept : SettingValue) × Spells text kept × (allocates kep
 abbrev pub IsDead : List ℕ → Type 0
 IsDead text = (kept : SettingValue) × Spells text kept × ¬ IsWhole text kept
 
--- Compares password kept stored outdated misses report: the report of comparing the password's hash with the stored
--- one. If the two are equal, there is no error, and `outdated` is reported; otherwise the error is `misses`. If scrypt
--- lacked memory for the hash, the report says that instead.
+-- Compares password kept stored outdated mismatch_reason report: the report of comparing the password's hash with the
+-- stored one. If the two are equal, there is no error, and `outdated` is reported; otherwise the error is
+-- `mismatch_reason`. If scrypt lacked memory for the hash, the report says that instead.
 abbrev pub Compares : List ℕ → SettingValue → List ℕ → ℕ → Reason → Report → Type 0
-Compares password kept stored outdated misses report =
-    let most = cost kept (length password) in
-    (report ≡ (if bytes_eq (crypt password kept) stored then found outdated most (work password kept) else failed misses most (work password kept)))
-    ⊎ LacksMemory kept most report
+Compares password kept stored outdated mismatch_reason report =
+    let hash_cost = cost kept (length password) in
+    (report ≡ (if bytes_eq (crypt password kept) stored then found outdated hash_cost (work password kept) else failed mismatch_reason hash_cost (work password kept)))
+    ⊎ LacksMemory kept hash_cost report
 
 -- Verifies password stored budget report: the report of mkpasswd_verify and web_verify.
 --   a refused argument  the reason
@@ -46,5 +46,5 @@ Compares password kept stored outdated misses report =
 abbrev pub Verifies : List ℕ → List ℕ → ℕ → Report → Type 0
 Verifies password stored budget report =
     OnPassword password (Refuses report) (OnField stored (Refuses report) (λ kept.
-    let most = cost kept (length password) in
-    MatchBool (nat_lt budget most) (report ≡ refused OverBudget most) (Compares password kept stored 0 WrongPassword report)))
+    let hash_cost = cost kept (length password) in
+    MatchBool (nat_lt budget hash_cost) (report ≡ refused OverBudget hash_cost) (Compares password kept stored 0 WrongPassword report)))

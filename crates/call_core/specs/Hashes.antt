@@ -1,7 +1,7 @@
 -- The hash of a password with a given or a new setting, both for C and for web pages.
 --
--- A password is the list of its bytes, `kept` is the setting that a text spells, and `most` is the cost of a hash: the
--- most bytes that it digests and mixes. `out` holds the bytes `old` before a call and `new` after it.
+-- A password is the list of its bytes, `kept` is the setting that a text spells, and `hash_cost` is the cost of a hash:
+-- the most bytes that it digests and mixes. `out` holds the bytes `old` before a call and `new` after it.
 use Rattle.std.specs.Prelude.{◌⊎◌, ◌==◌, if◌then◌else◌, ℕ, nat_lt, MatchBool, MatchResult, List, [], ◌∷◌, length, Result, Ok, Err}
 use Rattle.crypt_core.specs.Crypt.{crypt}
 use Rattle.crypt_core.specs.MadeSettings.{salted}
@@ -17,10 +17,10 @@ use Rattle.call_core.specs.declared.report.Report.{Report}
 -- a zero byte; otherwise the report of the refusal. The budget is tested first.
 abbrev pub admission : ℕ → ℕ → List ℕ → SettingValue → Result ℕ Report
 admission budget room password kept =
-    let most = cost kept (length password) in
-    if nat_lt budget most then Err (refused OverBudget most)
-    else if nat_lt (length (crypt password kept)) room then Ok most
-    else Err (refused TooFewBytes most)
+    let hash_cost = cost kept (length password) in
+    if nat_lt budget hash_cost then Err (refused OverBudget hash_cost)
+    else if nat_lt (length (crypt password kept)) room then Ok hash_cost
+    else Err (refused TooFewBytes hash_cost)
 
 -- PutsHash password kept budget lock old report new: the call reports the hash and writes it to `out`; or it reports
 -- the first refusal in the order budget, capacity, memory, and writes `lock`.
@@ -28,8 +28,8 @@ abbrev pub PutsHash : List ℕ → SettingValue → ℕ → List ℕ → List �
 PutsHash password kept budget lock old report new =
     let text = crypt password kept in
     MatchResult (admission budget (length old) password kept)
-    (λ most. Leaves (succeeded (length text) most (work password kept)) text old report new
-    ⊎ (LacksMemory kept most report × Leaves report lock old report new))
+    (λ hash_cost. Leaves (succeeded (length text) hash_cost (work password kept)) text old report new
+    ⊎ (LacksMemory kept hash_cost report × Leaves report lock old report new))
     (λ refusal. Leaves refusal lock old report new)
 
 -- Hashes password text budget old report new: the effect of mkpasswd_hash and web_hash, which write the hash, or the
@@ -49,5 +49,5 @@ HashesAnew password number rounds budget numbers old report new =
     MatchBool (length numbers == 3)
     (PutsHash password (salted scheme numbers) budget (token []) old report new)
     (MatchResult (admission budget (length old) password (salted scheme (0 ∷ 0 ∷ 0 ∷ [])))
-    (λ most. Leaves (refused NoRandomNumbers most) (token []) old report new)
+    (λ hash_cost. Leaves (refused NoRandomNumbers hash_cost) (token []) old report new)
     (λ refusal. Leaves refusal (token []) old report new))))

@@ -22,9 +22,10 @@ use Rattle.call_core.specs.declared.limit.Limit.TheVariants.{Policy, Bytes}
 use Rattle.call_core.specs.declared.reason.Reason.TheVariants.{OverBudget}
 use Rattle.call_core.specs.declared.report.Report.{Report}
 
--- The budget that means the limit of the policy, which is about twice the cost of a new hash.
-abbrev pub twice : ℕ
-twice = 0
+-- The budget that means the limit of the policy, which is twice the cost of a new hash of a password of 64 bytes, or
+-- more (`policy_limit`).
+abbrev pub default_budget : ℕ
+default_budget = 0
 
 -- limit_by scheme len: the limit of the policy whose new hashes have this scheme. It is 0, which admits no hash, for a
 -- password that is too long or whose new hash would be above the limit.
@@ -45,18 +46,17 @@ abbrev pub method_limit : Method → ℕ → ℕ → ℕ
 method_limit method rounds len = if takes_new_rounds method rounds then limit_by (made_scheme method (chosen_rounds method rounds)) len else 0
 
 -- limit_in number rounds limit len: the most that a login or a new hash may cost for a password of this length: the
--- budget, or the limit of the policy. A policy's limit is 0 if no method has the number or the method does not take the
--- rounds, if the password is too long, or if its new hash is above the limit.
+-- caller's budget, or `method_limit` for the policy with this method and these rounds. For a policy it is 0 if no
+-- method has the number.
 abbrev pub limit_in : ℕ → ℕ → Limit → ℕ → ℕ
 limit_in number rounds Policy len = option_map_or (λ (method : Method). method_limit method rounds len) (chosen_method number) 0
 limit_in number rounds (Bytes budget) len = budget
 
 -- meant budget: the limit that a budget means. 0 means the limit of the policy.
 abbrev pub meant : ℕ → Limit
-meant budget = if budget == twice then Policy else Bytes budget
+meant budget = if budget == default_budget then Policy else Bytes budget
 
--- limit_of number rounds budget len: `limit_in` for the budget that a caller passes, where 0 means the limit of the
--- policy.
+-- limit_of number rounds budget len: `limit_in` for the limit that the caller's budget means (`meant`).
 abbrev pub limit_of : ℕ → ℕ → ℕ → ℕ → ℕ
 limit_of number rounds budget len = limit_in number rounds (meant budget) len
 
@@ -103,12 +103,12 @@ ReportsRounds len number rounds limit report =
 
 -- AreFitted len number limit scheme report: what holds of the reported rounds and cost, for a policy with this scheme.
 --   makes   the method takes the rounds for new hashes, whose scheme is `own`
---   price   a new hash of a password of this length with these rounds has the reported cost
+--   cost    a new hash of a password of this length with these rounds has the reported cost
 --   within  the cost is at most the limit
 --   fewer   the rounds are no more than the policy's
 pub record AreFitted (len number limit : ℕ) (scheme : Scheme) (report : Report) : Type 0 where
   pub own : Scheme
   pub makes : IsSchemeMade TakesNewRounds number report.rounds own
-  pub price : report.cost ≡ new_cost own len
+  pub cost : report.cost ≡ new_cost own len
   pub within : report.cost ≤ limit
   pub fewer : is_outdated_by scheme own ≡ false

@@ -9,7 +9,7 @@ use Rattle.crypt_core.specs.Work.{cost}
 use Rattle.crypt_core.specs.declared.need.Need.{Need}
 use Rattle.crypt_core.specs.declared.scheme.Scheme.{Scheme}
 use Rattle.call_core.specs.Arguments.{IsSchemeMade, TakesNewRounds}
-use Rattle.call_core.specs.Logins.{IsUncheckable, decoy}
+use Rattle.call_core.specs.Logins.{IsUncheckable, dummy}
 
 -- HashesWith password text budget kept: a call that checks the password against `text`, or hashes it with the setting
 -- in `text`, hashes it with the setting `kept`: the password is valid, the text spells the setting, and the budget
@@ -18,12 +18,12 @@ abbrev pub HashesWith : List ℕ → List ℕ → ℕ → SettingValue → Type 
 HashesWith password text budget kept = IsPassword password × Spells text kept × (cost kept (length password) ≤ budget)
 
 -- LoginHashesWith password field number rounds budget kept: with a valid password, method and rounds, a login hashes
--- the password with the setting `kept`: the stored one if it can be checked within the budget, and otherwise the decoy
--- if the budget allows that.
+-- the password with the setting `kept`: the stored one if it can be checked within the budget, and otherwise that of
+-- the dummy hash if the budget allows this hash.
 abbrev pub LoginHashesWith : List ℕ → List ℕ → ℕ → ℕ → ℕ → SettingValue → Type 0
 LoginHashesWith password field number rounds budget kept =
     (scheme : Scheme) × IsSchemeMade TakesNewRounds number rounds scheme × IsPassword password
-    × (Spells field kept ⊎ (IsUncheckable password field budget × (kept ≡ decoy scheme)))
+    × (Spells field kept ⊎ (IsUncheckable password field budget × (kept ≡ dummy scheme)))
     × (cost kept (length password) ≤ budget)
 
 -- IsNeed Hashes need: `need` is the memory that a call needs, where `Hashes` holds of the setting with which the call

@@ -3,41 +3,41 @@ use Rattle.std.specs.Prelude.{◌≡◌, ◌⊎◌, ◌↔◌, ◌<◌, ℕ, ℤ
 use Rattle.std.specs.Str.{bytes_eq}
 use Rattle.prims_core.specs.Work.{no_work}
 use Rattle.prims_core.specs.declared.meter.Work.{Work}
-use Rattle.crypt_core.specs.Crypt.{IsAfterRefusedGrowth}
+use Rattle.crypt_core.specs.Crypt.{IsAfterFailedAllocation}
 use Rattle.crypt_core.specs.Settings.{SettingValue}
 use Rattle.call_core.specs.Reasons.{reason_row}
 use Rattle.call_core.specs.declared.reason.Reason.{Reason}
 use Rattle.call_core.specs.declared.reason.Reason.TheVariants.{OutOfMemory}
 use Rattle.call_core.specs.declared.report.Report.{Report}
 
--- succeeded len most counts: the report of a call that did what its name says: it wrote `len` bytes, the hash costs at
--- most `most`, and `counts` is its work. It has no rounds and no scheme, which only a few calls add: those on a policy
--- add rounds, and an audit adds both.
+-- succeeded len hash_cost counts: the report of a call that did what its name says: it wrote `len` bytes, the hash
+-- costs at most `hash_cost`, and `counts` is its work. It has no rounds and no scheme, which only a few calls add:
+-- those on a policy add rounds, and an audit adds both.
 abbrev pub succeeded : ℕ → ℕ → Work → Report
-succeeded len most counts =
-    record { error = 0; outdated = 0; length = len; scheme = 0; rounds = 0; n = 0; r = 0; p = 0; cost = most; work = counts }
+succeeded len hash_cost counts =
+    record { error = 0; outdated = 0; length = len; scheme = 0; rounds = 0; n = 0; r = 0; p = 0; cost = hash_cost; work = counts }
 
--- failed reason most counts: the report of a call that failed for this reason. The hash costs at most `most`, and
--- `counts` is the work of the call.
+-- failed reason hash_cost counts: the report of a call that failed for this reason. The hash costs at most `hash_cost`,
+-- and `counts` is the work of the call.
 abbrev pub failed : Reason → ℕ → Work → Report
-failed reason most counts = record (succeeded 0 most counts) { error = (reason_row reason).0 }
+failed reason hash_cost counts = record (succeeded 0 hash_cost counts) { error = (reason_row reason).0 }
 
--- refused reason most: the report of a call that failed before it hashed; `most` is the cost, or 0 if that isn't known
--- yet.
+-- refused reason hash_cost: the report of a call that failed before it hashed; `hash_cost` is the cost, or 0 if that
+-- isn't known yet.
 abbrev pub refused : Reason → ℕ → Report
-refused reason most = failed reason most no_work
+refused reason hash_cost = failed reason hash_cost no_work
 
--- found outdated most counts: the report of a call that found a stored hash, or found that the password matches it.
--- `outdated` is 1 if a new hash by the policy would replace the stored one, otherwise 0. A check without a policy
+-- found outdated hash_cost counts: the report of a call that found a stored hash, or found that the password matches
+-- it. `outdated` is 1 if a new hash by the policy would replace the stored one, otherwise 0. A check without a policy
 -- reports 0.
 abbrev pub found : ℕ → ℕ → Work → Report
-found outdated most counts = record (succeeded 0 most counts) { outdated = outdated }
+found outdated hash_cost counts = record (succeeded 0 hash_cost counts) { outdated = outdated }
 
--- LacksMemory kept most report: the report if scrypt lacked memory: an allocation failed, or the caller lent too
+-- LacksMemory kept hash_cost report: the report if scrypt lacked memory: an allocation failed, or the caller lent too
 -- little. Its work is that of the allocations before the one that failed. No other scheme needs memory.
 abbrev pub LacksMemory : SettingValue → ℕ → Report → Type 0
-LacksMemory kept most report =
-    (done : Work) × IsAfterRefusedGrowth no_work kept.scheme done × (report ≡ failed OutOfMemory most done)
+LacksMemory kept hash_cost report =
+    (done : Work) × IsAfterFailedAllocation no_work kept.scheme done × (report ≡ failed OutOfMemory hash_cost done)
 
 -- put text old: the caller's bytes after a call wrote a string to them: as much of it as fits before a zero byte, that
 -- byte, and then the old bytes unchanged. If there are no bytes, nothing is written.

@@ -10,7 +10,7 @@ use Rattle.call_core.specs.declared.reason.Reason.TheVariants.{TooFewBytes}
 use Rattle.call_core.specs.declared.report.Report.{Report}
 
 -- Bounds len stored report: the report of mkpasswd_bound and web_cost: the cost, and the bound on the work, of the hash
--- of any password of this length.
+-- of any password of this length with the setting that `stored` spells.
 abbrev pub Bounds : ℕ → List ℕ → Report → Type 0
 Bounds len stored report =
     OnLength len (Refuses report) (OnSetting stored (Refuses report) (λ kept.

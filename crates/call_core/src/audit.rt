@@ -13,9 +13,9 @@ use crypt_core::standing::Standing;
 
 /// Audits a stored field against the policy that new hashes follow, and returns the report.
 ///
-/// `method` and `rounds` make the scheme of new hashes. Rounds of 0 are the recommended ones. A budget of 0 means the
-/// audit's own budget: a login under the limit of the policy can check every hash within it, at least with the empty
-/// password.
+/// `method` and `rounds` ([`Method::chosen_rounds`](crypt_core::method::Method::chosen_rounds)) make the scheme of new
+/// hashes. A budget of 0 means the audit's own budget: a login under the limit of the policy can check every hash
+/// within it, at least with the empty password.
 pub fn report_audit(field: &[u8], method: u32, rounds: u32, budget: u64) -> Report
     ensures audits { Audits field.now method rounds budget result }
     ensures current { Passes result → IsCurrent field.now method rounds budget }

@@ -18,8 +18,8 @@ pub fn report_bound(password_len: usize, text: &[u8]) -> Report
     }
     match read_setting(text) {
         Ok(setting) => {
-            let most = cost(&setting, password_len);
-            Report::succeeded(0, most, bound(&setting, password_len))
+            let hash_cost = cost(&setting, password_len);
+            Report::succeeded(0, hash_cost, bound(&setting, password_len))
         }
         Err(reason) => Report::from(reason),
     }

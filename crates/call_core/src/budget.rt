@@ -18,16 +18,16 @@ pub(crate) fn cost_within(
     setting: &Setting,
     budget: u64,
 ) -> Result<u64, Report>
-    ensures within { IfOk result (λ most. (most ≡ cost setting.now (length password.now))
+    ensures within { IfOk result (λ hash_cost. (hash_cost ≡ cost setting.now (length password.now))
         × (cost setting.now (length password.now) ≤ budget)) }
     ensures above { IfErr result (λ report. (budget < cost setting.now (length password.now))
         × (report ≡ refused Reason.OverBudget (cost setting.now (length password.now)))) }
 {
-    let most = cost(setting, password.bytes().len());
-    if most > budget {
-        return Err(Report::refused(Reason::OverBudget, most));
+    let hash_cost = cost(setting, password.bytes().len());
+    if hash_cost > budget {
+        return Err(Report::refused(Reason::OverBudget, hash_cost));
     }
-    Ok(most)
+    Ok(hash_cost)
 }
 
 /// Returns the cost of the hash if the budget allows it, and `room` bytes hold the hash and a zero byte. Otherwise the
@@ -40,9 +40,9 @@ pub(crate) fn admit(
 ) -> Result<u64, Report>
     ensures { result ≡ admission budget room password.now setting.now }
 {
-    let most = cost_within(password, setting, budget)?;
+    let hash_cost = cost_within(password, setting, budget)?;
     if hash_len(setting) >= room {
-        return Err(Report::refused(Reason::TooFewBytes, most));
+        return Err(Report::refused(Reason::TooFewBytes, hash_cost));
     }
-    Ok(most)
+    Ok(hash_cost)
 }

@@ -8,7 +8,7 @@ ghost use Rattle.crypt_core.specs.Work.{cost};
 ghost use Rattle.call_core.specs.Checks.{Opens};
 ghost use Rattle.call_core.specs.Hashes.{Hashes};
 ghost use Rattle.call_core.specs.Needs.{HashesWith};
-ghost use Rattle.call_core.specs.Private.Hashes.{IsPut, IsTold, MakesHash, MakesHashOf};
+ghost use Rattle.call_core.specs.Private.Hashes.{IsPut, IsReported, MakesHash, MakesHashOf};
 ghost use Rattle.call_core.specs.Reasons.{reason_row};
 ghost use Rattle.call_core.specs.Reports.{put, token};
 
@@ -22,7 +22,7 @@ use crypt_core::password::Password;
 use crypt_core::setting::Setting;
 use prims_core::meter::Meter;
 
-/// Hashes the password with the setting in `text` and writes the hash to `out`. After a refusal it writes `*0` or `*1`
+/// Hashes the password with the setting in `text` and writes the hash to `out`. After an error it writes `*0` or `*1`
 /// instead, which is no hash ([`token`]).
 pub fn put_hash<M: Memory>(
     memory: &mut M,
@@ -46,7 +46,7 @@ pub fn put_hash<M: Memory>(
     put_hashed(hashed, token(text), out)
 }
 
-/// Writes the hash to `out`, or `lock` after a refusal, and returns the report.
+/// Writes the hash to `out`, or after an error `lock`, which is a [`token`], and returns the report.
 pub(crate) fn put_hashed(
     hashed: Result<(Hashed, Report), Report>,
     lock: &[u8],
@@ -72,7 +72,7 @@ fn hash_of<M: Memory>(
 ) -> Result<(Hashed, Report), Report>
     requires new { meter.old ≡ no_work }
     ensures makes { MakesHashOf password.now text.now budget room result }
-    ensures told { IsTold budget room meter.new result }
+    ensures reported { IsReported budget room meter.new result }
     ensures opens { IfOk result (λ made. Opens password.now made.0 budget) }
     ensures enough { ((kept : SettingValue) → HashesWith password.now text.now budget kept → AreEnough (M.IsEnough memory.old) kept.scheme)
         → IfErr result (λ report. report.error ≢ (reason_row Reason.OutOfMemory).0) }
@@ -83,8 +83,8 @@ fn hash_of<M: Memory>(
     hash_within(memory, &password, &setting, budget, room, meter)
 }
 
-/// Hashes the password, and returns the hash and the report, or the report of a refusal. A hash is refused if it can
-/// cost more than the budget, then if it and a zero byte need more than `room` bytes, and last if scrypt lacks memory.
+/// Hashes the password, and returns the hash and the report, or the report of the first of these refusals: the hash can
+/// cost more than the budget, the hash and a zero byte need more than `room` bytes, or scrypt gets no memory.
 pub(crate) fn hash_within<M: Memory>(
     memory: &mut M,
     password: &Password,
@@ -95,20 +95,20 @@ pub(crate) fn hash_within<M: Memory>(
 ) -> Result<(Hashed, Report), Report>
     requires new { meter.old ≡ no_work }
     ensures makes { MakesHash password.now setting.now budget room result }
-    ensures told { IsTold budget room meter.new result }
+    ensures reported { IsReported budget room meter.new result }
     ensures spells { IfOk result (λ made. Spells made.0 setting.now × (crypt password.now setting.now ≡ made.0)
         × (cost setting.now (length password.now) ≤ budget)) }
     ensures enough { (cost setting.now (length password.now) ≤ budget → AreEnough (M.IsEnough memory.old) setting.now.scheme)
         → IfErr result (λ report. report.error ≢ (reason_row Reason.OutOfMemory).0) }
     ensures bytes { meter.new.bytes ≤ budget }
 {
-    let most = admit(password, setting, budget, room)?;
+    let hash_cost = admit(password, setting, budget, room)?;
     match hash_by(memory, password, setting, meter) {
         Ok(hashed) => {
             let length = hashed.text().len() as u32;
-            let report = Report::succeeded(length, most, meter.work());
+            let report = Report::succeeded(length, hash_cost, meter.work());
             Ok((hashed, report))
         }
-        Err(_) => Err(Report::failed(Reason::OutOfMemory, most, meter.work())),
+        Err(_) => Err(Report::failed(Reason::OutOfMemory, hash_cost, meter.work())),
     }
 }

@@ -13,8 +13,9 @@ use crate::report::Report;
 use crypt_core::password::PASSWORD_LIMIT;
 use crypt_core::scheme::Scheme;
 
-/// A budget of 0 means the limit of the policy, which is about twice the cost of a new hash.
-const TWICE: u64 = 0;
+/// The budget that means the limit of the policy ([`Scheme::policy_limit`]): twice the cost of a new hash of a password
+/// of 64 bytes, but at least a fixed number.
+const DEFAULT_BUDGET: u64 = 0;
 
 /// The limit on the cost of a login and of a new hash.
 #[derive(Clone, Copy, Debug, PartialEq, Eq)]
@@ -30,7 +31,7 @@ impl Limit {
     pub fn of(budget: u64) -> Limit
         ensures { result ≡ meant budget }
     {
-        if budget == TWICE {
+        if budget == DEFAULT_BUDGET {
             Limit::Policy
         } else {
             Limit::Bytes(budget)
@@ -48,8 +49,7 @@ impl Limit {
     }
 
     /// Returns the most that a hash of a password of `password_len` bytes may cost, for a policy whose new hashes have
-    /// this scheme. If the limit is the policy's, and a new hash of such a password would cost more, the result is 0,
-    /// which admits no hash.
+    /// this scheme: the caller's own budget, or what `policy_allowance` returns.
     ///
     /// Precondition: `password_len` is at most [`PASSWORD_LIMIT`].
     pub(crate) fn allowance(self, scheme: &Scheme, password_len: usize) -> u64
@@ -64,8 +64,8 @@ impl Limit {
 }
 
 /// Returns the report of the limit, of the length of the longest password whose new hash is within it, and of the
-/// rounds of new hashes. Rounds of 0 are the recommended ones. If no new hash is within the limit, the error is
-/// `OverBudget` and the cost is the limit.
+/// rounds of new hashes ([`Method::chosen_rounds`](crypt_core::method::Method::chosen_rounds)). If no new hash is
+/// within the limit, the error is `OverBudget` and the cost is the limit.
 pub fn report_limit(method: u32, rounds: u32, limit: Limit) -> Report
     ensures limits { Limits method rounds limit result }
     ensures used { (len : ℕ) → result.error ≡ 0 → len ≤ result.length → limit_in method rounds limit len ≡ result.cost }
@@ -108,7 +108,8 @@ pub fn report_rounds(password_len: usize, method: u32, rounds: u32, limit: Limit
     }
 }
 
-// Returns the limit of the policy, or 0 if a new hash of a password of this length would cost more than that.
+// Returns the limit of the policy, or 0, which admits no hash, if a new hash of a password of this length would cost
+// more than that limit.
 fn policy_allowance(scheme: &Scheme, password_len: usize) -> u64
     requires { password_len ≤ password_limit }
     ensures { result ≡ limit_by scheme.now password_len }

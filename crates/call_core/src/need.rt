@@ -29,8 +29,8 @@ pub fn hash_need(password: &[u8], text: &[u8], budget: u64) -> Need
 }
 
 /// Returns the memory that [`log_in`](crate::login::log_in) needs with these arguments: that of the stored hash if it
-/// can be checked within the limit, and otherwise that of a new hash if the limit admits it. A call that makes no hash
-/// needs nothing.
+/// can be checked within the limit, and otherwise that of the dummy hash if the limit admits it. A call that makes no
+/// hash needs nothing.
 pub fn login_need(password: &[u8], field: &[u8], method: u32, rounds: u32, limit: Limit) -> Need
     ensures { IsNeed (LoginHashesWith password.now field.now method rounds (limit_in method rounds limit (length password.now))) result }
 {
@@ -40,9 +40,10 @@ pub fn login_need(password: &[u8], field: &[u8], method: u32, rounds: u32, limit
     if let Ok((stored, _)) = checkable(&request.password, field, request.limit) {
         return stored.setting().scheme().need();
     }
-    let decoy = Setting::salted(request.scheme, [0; 3]);
-    match cost_within(&request.password, &decoy, request.limit) {
-        Ok(_) => decoy.scheme().need(),
+    // The setting of the dummy hash that `log_in` makes.
+    let dummy = Setting::salted(request.scheme, [0; 3]);
+    match cost_within(&request.password, &dummy, request.limit) {
+        Ok(_) => dummy.scheme().need(),
         Err(_) => NOTHING,
     }
 }

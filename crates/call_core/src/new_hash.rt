@@ -7,7 +7,7 @@ ghost use Rattle.call_core.specs.Arguments.{IsSchemeMade, TakesNewRounds};
 ghost use Rattle.call_core.specs.Checks.{Opens};
 ghost use Rattle.call_core.specs.Hashes.{HashesAnew};
 ghost use Rattle.call_core.specs.Limits.{limit_in};
-ghost use Rattle.call_core.specs.Private.Hashes.{IsTold, MakesHashAnew};
+ghost use Rattle.call_core.specs.Private.Hashes.{IsReported, MakesHashAnew};
 ghost use Rattle.call_core.specs.Reasons.{reason_row};
 ghost use Rattle.call_core.specs.Rehashes.{Rehashes};
 ghost use Rattle.call_core.specs.Reports.{found, put, token};
@@ -23,7 +23,7 @@ use crypt_core::memory::Memory;
 use crypt_core::setting::Setting;
 use prims_core::meter::Meter;
 
-/// Hashes the password with a new setting and writes the hash to `out`. After a refusal it writes `*0` instead, which
+/// Hashes the password with a new setting and writes the hash to `out`. After an error it writes `*0` instead, which
 /// is no hash ([`token`]).
 ///
 /// `numbers` has the three random numbers that make the salt. With any other count of numbers the call still makes all
@@ -70,7 +70,7 @@ fn new_hash_of<M: Memory>(
 ) -> Result<(Hashed, Report), Report>
     requires new { meter.old ≡ no_work }
     ensures makes { MakesHashAnew password.now method rounds numbers.now (limit_in method rounds limit (length password.now)) room result }
-    ensures told { IsTold (limit_in method rounds limit (length password.now)) room meter.new result }
+    ensures reported { IsReported (limit_in method rounds limit (length password.now)) room meter.new result }
     ensures opens { IfOk result (λ made. Opens password.now made.0 (limit_in method rounds limit (length password.now))) }
     ensures current { IfOk result (λ made. Rehashes made.0 method rounds (found 0 0 no_work)) }
     ensures enough { ((scheme : Made) → IsSchemeMade TakesNewRounds method rounds scheme → AreEnough (M.IsEnough memory.old) scheme)
@@ -90,6 +90,6 @@ fn new_hash_of<M: Memory>(
     }
     // Any salt will do here: the cost and the length of a hash don't depend on the random numbers.
     let setting = Setting::salted(request.scheme, [0; 3]);
-    let most = admit(&request.password, &setting, request.limit, room)?;
-    Err(Report::refused(Reason::NoRandomNumbers, most))
+    let hash_cost = admit(&request.password, &setting, request.limit, room)?;
+    Err(Report::refused(Reason::NoRandomNumbers, hash_cost))
 }

@@ -61,7 +61,7 @@ fn chosen_method(number: u32) -> Option<Method>
     Method::numbered(number)
 }
 
-/// Returns the scheme that a method's number and the rounds make. Rounds of 0 are the recommended ones.
+/// Returns the scheme that a method's number and the rounds ([`Method::chosen_rounds`]) make.
 ///
 /// # Errors
 ///
@@ -116,8 +116,8 @@ pub(crate) fn given_setting(number: u32, rounds: u32, salt: &[u8]) -> Result<Set
     Ok(setting)
 }
 
-// Returns whether the scheme's rounds differ from `rounds`, the number that was asked for, because that was clamped.
-// Rounds of 0 mean the recommended rounds, which are never clamped.
+// Returns whether the scheme has other rounds than the caller asked for (`rounds`), because SHA-crypt clamped them. For
+// 0, `Method::chosen_rounds` chooses rounds that are never clamped.
 fn is_clamped(scheme: &Scheme, rounds: u32) -> bool
     ensures { IsTrue result ↔ IsClamped scheme.now rounds }
 {

@@ -1,5 +1,6 @@
 //! The reasons why a call did not do what its name says, with their numbers and messages. tools/reasons checks that
-//! `c/mkpasswd.h` has the same list, and makes the lists of other languages from it.
+//! `c/mkpasswd.h` has the same list as the definition (specs/Reasons.antt), and makes the lists of other languages from
+//! that header.
 ghost use Rattle.std.specs.Prelude.{◌≡◌, IfSome};
 ghost use Rattle.call_core.specs.Reasons.{reason_numbered, reason_row};
 
@@ -22,7 +23,7 @@ pub enum Reason {
     UnknownScheme = 5,
     /// The setting has `rounds=` without a valid number.
     BadRounds = 6,
-    /// The cost in scrypt's setting is not eleven characters of `./0-9A-Za-z`.
+    /// The cost part of scrypt's setting is not eleven characters of `./0-9A-Za-z`.
     BadCost = 7,
     /// N, r or p in scrypt's setting is out of its range.
     ScryptRange = 8,

@@ -119,37 +119,41 @@ impl From<Reason> for Report {
     }
 }
 
-/// Writes `told`, the report of a call, to `report`. Returns 1 if its error is 0, otherwise 0.
-pub fn tell(report: &mut Report, told: Report) -> i32
-    ensures told { report.new ≡ told }
-    ensures answers { Answers result told }
+/// Writes `reported`, the report of a call, to `report`. Returns 1 if its error is 0, otherwise 0.
+pub fn write_report(report: &mut Report, reported: Report) -> i32
+    ensures reported { report.new ≡ reported }
+    ensures answers { Answers result reported }
 {
-    answer(report, told, told.error == 0)
+    answer(report, reported, reported.error == 0)
 }
 
-/// Writes `told`, the report of a call, to `report`. Returns 1 if the stored hash is outdated, otherwise 0.
-pub fn tell_outdated(report: &mut Report, told: Report) -> i32
-    ensures told { report.new ≡ told }
-    ensures answers { AnswersOutdated result told }
+/// Writes `reported`, the report of a call, to `report`. Returns 1 if the stored hash is outdated, otherwise 0.
+pub fn write_report_is_outdated(report: &mut Report, reported: Report) -> i32
+    ensures reported { report.new ≡ reported }
+    ensures answers { AnswersOutdated result reported }
 {
-    answer(report, told, told.outdated == 1)
+    answer(report, reported, reported.outdated == 1)
 }
 
-/// Writes `told`, the report of a call, to `report`. Returns 1 if the stored hash is current, otherwise 0.
-pub fn tell_current(report: &mut Report, told: Report) -> i32
-    ensures told { report.new ≡ told }
-    ensures answers { AnswersCurrent result told }
+/// Writes `reported`, the report of a call, to `report`. Returns 1 if the stored hash is current, otherwise 0.
+pub fn write_report_is_current(report: &mut Report, reported: Report) -> i32
+    ensures reported { report.new ≡ reported }
+    ensures answers { AnswersCurrent result reported }
 {
-    answer(report, told, told.error == 0 && told.outdated == 0)
+    answer(
+        report,
+        reported,
+        reported.error == 0 && reported.outdated == 0,
+    )
 }
 
-// Writes `told`, the report of a call, to `report`. Returns 1 if `is_yes`, otherwise 0.
-fn answer(report: &mut Report, told: Report, is_yes: bool) -> i32
-    ensures told { report.new ≡ told }
+// Writes `reported`, the report of a call, to `report`. Returns 1 if `is_yes`, otherwise 0.
+fn answer(report: &mut Report, reported: Report, is_yes: bool) -> i32
+    ensures reported { report.new ≡ reported }
     ensures yes { result ≡ pos 1 ↔ IsTrue is_yes }
     ensures one_or_zero { IsOneOrZero result }
 {
-    *report = told;
+    *report = reported;
     i32::from(is_yes)
 }
 

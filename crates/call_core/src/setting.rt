@@ -9,7 +9,7 @@ use crate::reason::Reason;
 use crate::report::{NO_WORK, Report, leave, token};
 use crypt_core::setting::Setting;
 
-/// Writes a new setting to `out` and returns the report. The three random numbers make the salt. After a refusal the
+/// Writes a new setting to `out` and returns the report. The three random numbers make the salt. After an error the
 /// call writes `*0` instead, which is no setting ([`token`]).
 pub fn put_setting(method: u32, rounds: u32, numbers: [u64; 3], out: &mut [u8]) -> Report
     ensures puts { PutsSetting method rounds numbers out.old result out.new }
@@ -21,7 +21,7 @@ pub fn put_setting(method: u32, rounds: u32, numbers: [u64; 3], out: &mut [u8]) 
     }
 }
 
-/// Writes the setting with the given salt to `out` and returns the report. After a refusal it writes `*0` instead,
+/// Writes the setting with the given salt to `out` and returns the report. After an error it writes `*0` instead,
 /// which is no setting ([`token`]).
 pub fn put_setting_with_salt(method: u32, rounds: u32, salt: &[u8], out: &mut [u8]) -> Report
     ensures puts { PutsGivenSetting method rounds salt.now out.old result out.new }

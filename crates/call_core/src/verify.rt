@@ -45,11 +45,11 @@ pub fn verify<M: Memory>(
         Err(reason) => return Report::from(reason),
     };
     match checkable(&password, stored, budget) {
-        Ok((stored, most)) => compare(
+        Ok((stored, hash_cost)) => compare(
             memory,
             &password,
             &stored,
-            most,
+            hash_cost,
             false,
             Reason::WrongPassword,
             meter,
@@ -74,41 +74,41 @@ pub(crate) fn checkable<'a>(
     ensures admits { (kept : SettingValue) → Spells field.now kept → cost kept (length password.now) ≤ budget → IsOk result }
 {
     let stored = stored_hash(field)?;
-    let most = cost_within(password, stored.setting(), budget)?;
-    Ok((stored, most))
+    let hash_cost = cost_within(password, stored.setting(), budget)?;
+    Ok((stored, hash_cost))
 }
 
 /// Hashes the password with the setting of the stored hash and compares the two hashes. If they are equal, the report
-/// has no error and says whether the stored hash is outdated (`is_outdated`). Otherwise its error is `misses`. If
-/// scrypt gets no memory, its error is `OutOfMemory`. `most` is the greatest cost of the hash.
+/// has no error and says whether the stored hash is outdated (`is_outdated`). Otherwise its error is `mismatch_reason`.
+/// If scrypt gets no memory, its error is `OutOfMemory`. `hash_cost` is the greatest cost of the hash.
 pub(crate) fn compare<M: Memory>(
     memory: &mut M,
     password: &Password,
     stored: &StoredHash<'_>,
-    most: u64,
+    hash_cost: u64,
     is_outdated: bool,
-    misses: Reason,
+    mismatch_reason: Reason,
     meter: &mut Meter,
 ) -> Report
     requires new { meter.old ≡ no_work }
-    requires most { most ≡ cost stored.now.setting (length password.now) }
-    requires misses { (misses ≡ Reason.WrongPassword) ⊎ (misses ≡ Reason.Dead) }
-    ensures compares { Compares password.now stored.now.setting stored.now.text (if is_outdated then 1 else 0) misses result }
+    requires hash_cost { hash_cost ≡ cost stored.now.setting (length password.now) }
+    requires mismatch_reason { (mismatch_reason ≡ Reason.WrongPassword) ⊎ (mismatch_reason ≡ Reason.Dead) }
+    ensures compares { Compares password.now stored.now.setting stored.now.text (if is_outdated then 1 else 0) mismatch_reason result }
     ensures same { result.error ≡ 0
         → (crypt password.now stored.now.setting ≡ stored.now.text) × (result.outdated ≡ (if is_outdated then 1 else 0)) }
     ensures only { result.outdated ≡ 1 → result.error ≡ 0 }
     ensures opens { crypt password.now stored.now.setting ≡ stored.now.text → (result.error ≡ 0)
         ⊎ ((result.error ≡ (reason_row Reason.OutOfMemory).0) × (allocates stored.now.setting.scheme ≡ true)) }
     ensures missed { crypt password.now stored.now.setting ≢ stored.now.text
-        → (result ≡ failed misses most (work password.now stored.now.setting))
+        → (result ≡ failed mismatch_reason hash_cost (work password.now stored.now.setting))
         ⊎ ((result.error ≡ (reason_row Reason.OutOfMemory).0) × (allocates stored.now.setting.scheme ≡ true)) }
     ensures enough { AreEnough (M.IsEnough memory.old) stored.now.setting.scheme → result.error ≢ (reason_row Reason.OutOfMemory).0 }
-    ensures bytes { result.work.bytes ≤ most }
+    ensures bytes { result.work.bytes ≤ hash_cost }
     ensures counted { meter.new ≡ result.work }
 {
     match stored.matches(memory, password, meter) {
-        Ok(true) => Report::found(is_outdated, most, meter.work()),
-        Ok(false) => Report::failed(misses, most, meter.work()),
-        Err(_) => Report::failed(Reason::OutOfMemory, most, meter.work()),
+        Ok(true) => Report::found(is_outdated, hash_cost, meter.work()),
+        Ok(false) => Report::failed(mismatch_reason, hash_cost, meter.work()),
+        Err(_) => Report::failed(Reason::OutOfMemory, hash_cost, meter.work()),
     }
 }

@@ -4,7 +4,8 @@
 //! [`mkpasswd_scheme_name_bytes`] and [`mkpasswd_version`]. A call with a report returns 1 for yes: it did what its
 //! name says, the password matches, the stored hash is outdated, or for an audit the stored hash is current. Otherwise
 //! it returns 0. It always writes the whole report. The report's `error` is 0, or the number of the reason why the call
-//! failed. After an error, `out` holds the token `*0` or `*1`, which no password matches, cut to the capacity of `out`.
+//! failed. After an error, `out` holds the token `*0` or `*1`, which no password matches, and a zero byte. If `out` is
+//! too small, the token is cut so that the zero byte fits.
 //!
 //! If several errors apply, the call reports the first in this order: password, setting, method, salt, rounds, budget,
 //! capacity of `out`, random numbers, memory. A login and an audit check the method and the rounds before the field. A
@@ -12,8 +13,8 @@
 //! `OutOfMemory` and not the field's error. [`mkpasswd_proved_verify`], [`mkpasswd_proved_login`] and
 //! [`mkpasswd_audit_bytes`] take a stored field, and report `Locked` for a locked one and `NoHash` for an empty one.
 //! The other calls take a setting, and report the first rule of a setting that such a field breaks. The method 0 is the
-//! recommended one, sha512crypt, and rounds of 0 are the recommended ones. The calls share no state and start no
-//! threads, so many threads may call at once.
+//! recommended one, sha512crypt, and rounds of 0 are the recommended ones: 656000 for SHA-crypt, and 7 for scrypt. The
+//! calls share no state and start no threads, so many threads may call at once.
 #![tactic(auto)]
 
 ghost use Rattle.std.specs.Prelude.{◌≡◌, ◌≢◌, ◌⊎◌, ◌↔◌, ◌<◌, ◌≤◌, pos, [], length, take};
@@ -28,7 +29,7 @@ ghost use Rattle.call_core.specs.Arguments.{IsSchemeMade, TakesNewRounds};
 ghost use Rattle.call_core.specs.Audits.{Audits, ForeseesLogins, IsCurrent};
 ghost use Rattle.call_core.specs.Checks.{IsDead, Opens, Verifies};
 ghost use Rattle.call_core.specs.Hashes.{Hashes, HashesAnew};
-ghost use Rattle.call_core.specs.Limits.{AreFitted, ReportsRounds, Limits, limit_bytes, limit_of, meant, new_cost, policy_limit, twice};
+ghost use Rattle.call_core.specs.Limits.{AreFitted, ReportsRounds, Limits, default_budget, limit_bytes, limit_of, meant, new_cost, policy_limit};
 ghost use Rattle.call_core.specs.Logins.{JudgesStoredHash, LogsIn, TreatsFieldsAlike};
 ghost use Rattle.call_core.specs.Names.{PutsMessage, PutsSchemeName};
 ghost use Rattle.call_core.specs.Reasons.{reason_row};
@@ -46,7 +47,7 @@ use call_core::message::put_message;
 use call_core::name::put_scheme_name;
 use call_core::new_hash::put_new_hash;
 use call_core::rehash::report_rehash;
-use call_core::report::{Report, tell, tell_current, tell_outdated};
+use call_core::report::{Report, write_report, write_report_is_current, write_report_is_outdated};
 use call_core::setting::put_setting_with_salt;
 use call_core::verify::verify;
 use crypt_core::version::VERSION_NUMBER;
@@ -86,25 +87,26 @@ pub extern "C" fn mkpasswd_proved_verify(
     ensures verifies { Verifies password.now stored.now budget report.new }
 {
     let mut heap = alloc;
-    tell(
+    write_report(
         report,
         verify(&mut heap, password, stored, budget, &mut Meter::new()),
     )
 }
 
-/// Checks the password of a login. Returns 1 exactly if a new hash can have the method and the rounds and
-/// [`mkpasswd_proved_verify`] returns 1 within the same limit, unless scrypt could not allocate. After a 1 the report's
-/// `outdated` says whether [`mkpasswd_needs_rehash_bytes`] would return 1; after a 0 `outdated` is 0.
+/// Checks the password of a login. Returns 1 exactly if a new hash can have the method and the rounds, the password
+/// matches the stored hash, and that hash costs at most the limit, unless scrypt could not allocate. With a budget of
+/// 0, a new hash of the password must be within the limit too. After a 1 the report's `outdated` says whether
+/// [`mkpasswd_needs_rehash_bytes`] would return 1; after a 0 `outdated` is 0.
 ///
-/// If the field has no valid setting, or one whose hash can cost more than the limit, the call hashes the password with
-/// the method, the rounds and a fixed salt, drops the hash, and returns 0. So a login with such a field takes the work
-/// of a new hash. For an unknown name, pass an empty field. Whatever the field is, the call makes at most one hash, and
-/// digests and mixes no more bytes than the limit.
+/// If the field has no valid setting, or one whose hash can cost more than the limit, the call returns 0, but first
+/// hashes the password with the method, the rounds and a fixed salt, if the limit allows it, and drops the hash. So a
+/// login with such a field takes the work of a new hash. For an unknown name, pass an empty field. Whatever the field
+/// is, the call makes at most one hash, and digests and mixes no more bytes than the limit.
 ///
 /// The limit is the budget, except that a budget of 0 stands for the limit of the policy: twice the cost of a new hash
 /// with the method and the rounds for a password of 64 bytes, and at least 150000000. The policy's limit admits a new
 /// hash of every password of up to 64 bytes. With it, the call refuses a password whose new hash would cost more,
-/// without work and whatever the field is. Rounds of 0 are the recommended ones.
+/// without work and whatever the field is.
 ///
 /// # Errors
 ///
@@ -139,7 +141,7 @@ pub extern "C" fn mkpasswd_proved_login(
     ensures treats_alike { TreatsFieldsAlike password.now field.now method rounds budget result report.new }
 {
     let mut heap = alloc;
-    tell(
+    write_report(
         report,
         log_in(
             &mut heap,
@@ -157,14 +159,13 @@ pub extern "C" fn mkpasswd_proved_login(
 ///
 /// Three random `numbers` make the salt. If `numbers` has any other length, the call hashes nothing and reports the
 /// first error in the list below that applies, which is `NoRandomNumbers` at the latest. So C's `mkpasswd_new` first
-/// makes this call without numbers. It draws three only after `NoRandomNumbers`, when nothing but a lack of memory can
-/// refuse the hash.
+/// makes this call without numbers. It draws three only after `NoRandomNumbers`, when only a lack of memory can make
+/// the next call fail.
 ///
 /// The method is 1 for md5crypt, 5 for sha256crypt, 6 for sha512crypt or 7 for scrypt, as in their hashes. The rounds
-/// are those of `mkpasswd -R`, except that 0 stands for the recommended ones. A budget of 0 is the limit of the policy,
-/// as for [`mkpasswd_proved_login`]. With the same method, rounds and budget, [`mkpasswd_proved_login`] accepts the
-/// hash for its password, unless scrypt lacks memory, and [`mkpasswd_needs_rehash_bytes`] does not report it as
-/// outdated.
+/// are those of `mkpasswd -R`, unless they are 0. A budget of 0 is the limit of the policy, as for
+/// [`mkpasswd_proved_login`]. With the same method, rounds and budget, [`mkpasswd_proved_login`] accepts the hash for
+/// its password, unless scrypt lacks memory, and [`mkpasswd_needs_rehash_bytes`] does not report it as outdated.
 ///
 /// # Errors
 ///
@@ -189,7 +190,7 @@ pub extern "C" fn mkpasswd_proved_new_from(
     ensures answers { Answers result report.new }
     ensures hashes { HashesAnew password.now method rounds (limit_of method rounds budget (length password.now)) numbers.now out.old report.new out.new }
     ensures locked { result ≡ pos 0 → out.new ≡ put (token []) out.old }
-    ensures writes { (scheme : Scheme) → IsSchemeMade TakesNewRounds method rounds scheme → budget ≡ twice → IsPassword password.now
+    ensures writes { (scheme : Scheme) → IsSchemeMade TakesNewRounds method rounds scheme → budget ≡ default_budget → IsPassword password.now
         → new_cost scheme (length password.now) ≤ policy_limit scheme → length numbers.now ≡ 3
         → length (crypt password.now (salted scheme numbers.now)) < length out.old
         → (result ≡ pos 1) ⊎ (report.new.error ≡ (reason_row OutOfMemory).0) }
@@ -197,7 +198,7 @@ pub extern "C" fn mkpasswd_proved_new_from(
     ensures then_current { result ≡ pos 1 → Rehashes (take report.new.length out.new) method rounds (found 0 0 no_work) }
 {
     let mut heap = alloc;
-    tell(
+    write_report(
         report,
         put_new_hash(
             &mut heap,
@@ -215,8 +216,8 @@ pub extern "C" fn mkpasswd_proved_new_from(
 /// Returns 1 if a new hash with the method and the rounds would replace the stored one.
 ///
 /// A new hash would replace a stored one that has another method, fewer rounds, or for scrypt a smaller `N * r * p`.
-/// The report's `outdated` is the same 0 or 1, and the report's `error` is 0 in both cases. The call hashes and
-/// allocates nothing.
+/// The report's `outdated` is the same 0 or 1. If the arguments are valid, the report's `error` is 0 whichever it is.
+/// The call hashes and allocates nothing.
 ///
 /// # Errors
 ///
@@ -233,16 +234,16 @@ pub extern "C" fn mkpasswd_needs_rehash_bytes(
     ensures outdated { result ≡ pos 1 ↔ IsOutdated stored.now method rounds }
     ensures rehashes { Rehashes stored.now method rounds report.new }
 {
-    tell_outdated(report, report_rehash(stored, method, rounds))
+    write_report_is_outdated(report, report_rehash(stored, method, rounds))
 }
 
 /// Audits the stored hash in a field. Returns 1 if it is current: it is whole, no hash with its setting costs more than
 /// the budget, and a new hash with the method and the rounds would not replace it.
 ///
-/// Rounds of 0 are the recommended ones: 656000 for SHA-crypt, and 7 for scrypt. A budget of 0 is the greatest cost of
-/// a hash with the method and the rounds, and at least that of sha512crypt with 656000 rounds. With a budget of 0, a
-/// hash is also over budget if a login with the method, the rounds and the limit of the policy would refuse even the
-/// empty password.
+/// A budget of 0 is the greatest cost of a hash with the method and the rounds, and at least that of sha512crypt with
+/// 656000 rounds. With a budget of 0, a hash is also over budget if with its setting even the empty password costs more
+/// than the limit of the policy: then no login with the method, the rounds and a budget of 0 checks any password
+/// against it.
 ///
 /// For a valid hash the report has the scheme, its rounds, or scrypt's N, r and p, and the greatest cost of a hash with
 /// its setting, for a password of 1,024 bytes. After `UnknownScheme` the report has the number of the scheme of
@@ -275,7 +276,7 @@ pub extern "C" fn mkpasswd_audit_bytes(
     ensures checked { ForeseesLogins field.now method rounds budget report.new }
     ensures idle { report.new.work ≡ no_work }
 {
-    tell_current(report, report_audit(field, method, rounds, budget))
+    write_report_is_current(report, report_audit(field, method, rounds, budget))
 }
 
 /// Reports the limit on the cost of a login and of a new hash for a method, rounds and a budget, and the length of the
@@ -299,7 +300,7 @@ pub extern "C" fn mkpasswd_limit_bytes(
     ensures answers { Answers result report.new }
     ensures limits { Limits method rounds (meant budget) report.new }
 {
-    tell(report, report_limit(method, rounds, Limit::of(budget)))
+    write_report(report, report_limit(method, rounds, Limit::of(budget)))
 }
 
 /// Reports rounds with which a new hash of any password of this length is within the limit for a method, rounds and a
@@ -331,10 +332,10 @@ pub extern "C" fn mkpasswd_rounds_bytes(
     ensures none { (scheme : Scheme) → IsSchemeMade TakesNewRounds method rounds scheme → password_len ≤ password_limit
         → result ≡ pos 0 → NeverFits scheme (limit_bytes (meant budget) scheme) password_len }
     ensures policy { (scheme : Scheme) → IsSchemeMade TakesNewRounds method rounds scheme → password_len ≤ password_limit
-        → budget ≡ twice → result ≡ pos 1 }
+        → budget ≡ default_budget → result ≡ pos 1 }
 {
-    let told = report_rounds(password_len, method, rounds, Limit::of(budget));
-    tell(report, told)
+    let reported = report_rounds(password_len, method, rounds, Limit::of(budget));
+    write_report(report, reported)
 }
 
 /// Reports the greatest cost and the greatest work of a hash with this setting, for any password of this length. The
@@ -353,13 +354,13 @@ pub extern "C" fn mkpasswd_bound_bytes(
     ensures answers { Answers result report.new }
     ensures bounds { Bounds password_len stored.now report.new }
 {
-    tell(report, report_bound(password_len, stored))
+    write_report(report, report_bound(password_len, stored))
 }
 
 /// Hashes a password with a setting, and writes the hash and a zero byte to `out`. With the same budget,
 /// [`mkpasswd_proved_verify`] accepts the hash for the password, unless scrypt could not allocate.
 ///
-/// After a refusal `out` holds the token `*0`, or `*1` if the setting begins with `*0`, cut to the capacity of `out`.
+/// After an error, `out` holds the token `*0`, or `*1` if the setting begins with `*0`.
 ///
 /// # Errors
 ///
@@ -384,8 +385,8 @@ pub extern "C" fn mkpasswd_proved_hash(
     ensures apart { (token setting.now ≢ setting.now) × ((kept : SettingValue) → ¬ Spells (token setting.now) kept) }
 {
     let mut heap = alloc;
-    let told = put_hash(&mut heap, password, setting, budget, out, &mut Meter::new());
-    tell(report, told)
+    let reported = put_hash(&mut heap, password, setting, budget, out, &mut Meter::new());
+    write_report(report, reported)
 }
 
 /// Makes a setting with a method, the rounds and a given salt, and writes it and a zero byte to `out`.
@@ -409,12 +410,12 @@ pub extern "C" fn mkpasswd_setting_bytes(
     ensures puts { PutsGivenSetting method rounds salt.now out.old report.new out.new }
     ensures locked { result ≡ pos 0 → out.new ≡ put (token []) out.old }
 {
-    let told = put_setting_with_salt(method, rounds, salt, out);
-    tell(report, told)
+    let reported = put_setting_with_salt(method, rounds, salt, out);
+    write_report(report, reported)
 }
 
-/// Writes the message for the reason with this number and a zero byte to `out`, cut to the capacity of `out`. If no
-/// reason has the number, the message is `unknown reason`.
+/// Writes the message for the reason with this number to `out`, followed by a zero byte. If `out` is too small, the
+/// message is cut so that the zero byte fits. If no reason has the number, the message is `unknown reason`.
 ///
 /// Returns 1, or 0 if the message was cut or no reason has the number.
 #[unsafe(no_mangle)]
@@ -424,8 +425,8 @@ pub extern "C" fn mkpasswd_message_bytes(error: u32, out: &mut [u8]) -> i32
     put_message(error, out)
 }
 
-/// Writes the crypt(5) name of the scheme with this number and a zero byte to `out`, cut to the capacity of `out`. If
-/// no scheme has the number, the name is `unknown scheme`.
+/// Writes the crypt(5) name of the scheme with this number to `out`, followed by a zero byte. If `out` is too small,
+/// the name is cut so that the zero byte fits. If no scheme has the number, the name is `unknown scheme`.
 ///
 /// Returns 1, or 0 if the name was cut or no scheme has the number.
 #[unsafe(no_mangle)]

@@ -1,7 +1,7 @@
 -- Shows that a hash digests at most as many bytes as its cost says, for the clause `metered` of `digest_of` in
--- src/hash.rt. `work_bytes-le-cost` goes scheme by scheme. For SHA-crypt, the cost takes 255 where the work takes the
--- first byte of the digest A, which is below 256. For the other schemes, the work and the cost have the same digested
--- bytes.
+-- src/hash.rt. `work_by_bytes-le-cost_by` goes scheme by scheme. For SHA-crypt, the cost takes 255 where the work takes
+-- the first byte of the digest A, which is below 256. For the other schemes, the work and the cost have the same
+-- digested bytes.
 use Rattle.std.proofs.Common.{◌≤◌, ℕ, List, length, arith}
 use Rattle.prims_core.specs.Digests.{sha256, sha512, length-sha256, length-sha512}
 use Rattle.prims_core.specs.Private.DigestFacts.{sha256_bytes, sha512_bytes}

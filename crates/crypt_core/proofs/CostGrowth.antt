@@ -1,8 +1,8 @@
 -- Shows that a hash of a longer password costs no less, which the binary search of `Scheme::longest_within` in
 -- src/policy.rt needs. `cost_by-mono` goes by induction over the difference of the lengths, so the step is a password
--- with one more byte. For SHA-crypt, a length that ends in binary digits of 1 loses up to ten digests and gains a digit
--- 0 when the carry clears those digits (`digit_bytes-le-next`), but the rounds add at least 1857 bytes
--- (`rounds_bytes-le-next`), which is more.
+-- with one more byte. If the length's binary digits end in 1s, the carry turns these into 0s and the 0 before them into
+-- a 1. In SHA-crypt, the message of the digest A then loses up to ten digests and one password
+-- (`digit_bytes-le-next`), at most 1663 bytes, but the rounds add at least 1857 bytes (`rounds_bytes-le-next`).
 use Rattle.std.proofs.Common.{◌≡◌, ℕ, zero, suc, ◌+◌, ◌-◌, ◌*◌, ◌/◌, ◌%◌, ◌^◌, ◌<◌, ◌≤◌, Bool, true, false, cond, nat_eq, inl, inr, refl, arith}
 use Rattle.std.specs.Int.{div_ceil}
 use Rattle.std.proofs.lemmas.Bool.{cases_lt}
@@ -44,8 +44,8 @@ digit_bytes-le-next_of_odd one other n half more low_is half_is rest =
     rw (digit_bytes-step one other (n + 1) (omega arith), low_next, half_next) refl in
     omega (arith, this, next, rest)
 
--- From a number of k digits to the next one, the pieces lose at most k times `one` bytes and once `other` bytes: the
--- carry turns the final digits 1 into 0.
+-- From a number of at most k digits to the next one, the pieces lose at most k times `one` bytes and once `other`
+-- bytes: the carry turns the 1s at the end into 0s, and the 0 before them into a 1.
 digit_bytes-le-next : (k one other n : ℕ) → n < 2 ^ k → digit_bytes one other n ≤ digit_bytes one other (n + 1) + (k * one + other)
 digit_bytes-le-next k one other zero below = omega (arith, digit_bytes-zero one other)
 digit_bytes-le-next zero one other (suc n) below = absurd (omega (arith, below))

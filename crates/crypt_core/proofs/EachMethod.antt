@@ -1,5 +1,5 @@
--- Facts that hold for every method, for `Setting::text`, `salt_of` and `append_packed`. `each_method` lifts a boolean
--- test that computes to true on the list of methods to any single method; the others use it on the table of methods.
+-- Facts that hold for every method, for `Setting::text`, `salt_of` and `append_packed`. If a boolean test computes to
+-- true on the list of methods, `each_method` shows that every method passes it.
 use Rattle.std.proofs.Common.{◌≡◌, Bool, true, eqb, length, refl}
 use Rattle.std.specs.List.{list_all}
 use Rattle.std.proofs.lemmas.Bool.{and_parts, eqb-true}
@@ -11,6 +11,7 @@ use Rattle.crypt_core.specs.Schemes.{sha_method}
 use Rattle.crypt_core.specs.declared.scheme.Sha.{Sha}
 use Rattle.crypt_core.specs.declared.scheme.Sha.TheVariants.{Sha256, Sha512}
 
+-- A test that a computation shows to be true for the list of all methods is true for each method.
 pub each_method : (test : Method → Bool) → list_all test methods ≡ true → (m : Method) → test m ≡ true
 each_method test all Md5crypt = (and_parts (test Md5crypt) _ all).0
 each_method test all Sha256crypt = (and_parts (test Sha256crypt) _ (and_parts (test Md5crypt) _ all).1).0

@@ -14,8 +14,8 @@ use Rattle.crypt_core.specs.declared.scheme.Scheme.TheVariants.{Md5crypt, Shacry
 use Rattle.crypt_core.specs.declared.scheme.Sha.TheVariants.{Sha256, Sha512}
 use Rattle.crypt_core.proofs.WorkBounds.{cost_by-le-at_64}
 
--- A hash of 64 bytes with any salt that the method keeps costs at most twice what a new hash costs. For scrypt, the
--- salt counts only in the few bytes of its messages.
+-- A hash of a password of 64 bytes, with any salt that the method keeps, costs at most twice as much as a new hash of
+-- it. For scrypt, the salt counts only in the few bytes of its messages.
 cost_by-le-twice_new_cost : (scheme : Scheme) (salt : ℕ) → salt ≤ salt_limit (method_of scheme) → cost_by scheme 64 salt ≤ 2 * new_cost scheme 64
 cost_by-le-twice_new_cost Md5crypt salt short = omega (arith, short)
 cost_by-le-twice_new_cost (Shacrypt Sha256 rounds) salt short = omega (arith, short, mul-le-mul_left (rounds.count - div_ceil rounds.count 3) short)

@@ -19,7 +19,8 @@ first_unique (f ∷ fs) breaks a b (inr later) (inl here) = absurd (later.0 here
 first_unique (f ∷ fs) breaks a b (inr later) (inr other) = first_unique fs breaks a b later.1 other.1
 
 -- Let a list begin with the errors `make f` for the f of another list, where the rule of `make f` is broken exactly if
--- that of f is. If f is the first error of the other list whose rule is broken, `make f` is the first of this one.
+-- that of f is broken. If f is the first error of the other list whose rule is broken, `make f` is the first of this
+-- one.
 pub first_mapped : {A F : Type 0} (make : A → F) (faults : List A) (others : List F) (breaks : F → Type 0) (own : A → Type 0)
     → ((f : A) → own f → breaks (make f)) → ((f : A) → breaks (make f) → own f)
     → (fault : A) → IsFirstBroken faults own fault → IsFirstBroken (map make faults ++ others) breaks (make fault)

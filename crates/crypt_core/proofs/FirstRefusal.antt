@@ -30,7 +30,7 @@ use Rattle.crypt_core.proofs.SpelledRounds.{rounds_field-append}
 
 -- ---- fronts that spell a scheme
 
--- A text that is a method's prefix, a cost part that spells the cost of a scheme of this method, and a rest, spells the
+-- A text that is a method's prefix, a cost part of a scheme of this method (`SpellsCost`), and a rest, spells the
 -- scheme.
 pub SpellsScheme-from_cost_part : (text : List ℕ) (scheme : Scheme) (after part rest : List ℕ) → text ≡ prefix (method_of scheme) ++ after → after ≡ part ++ rest → SpellsCost scheme part rest → SpellsScheme text scheme rest
 SpellsScheme-from_cost_part text scheme after part rest begins parts cost =
@@ -54,7 +54,9 @@ KeepsSalt-from_KeepsField (Shacrypt Sha256 r) field salt c k = k
 KeepsSalt-from_KeepsField scheme field salt c k = k
 
 -- If a text has the length and the bytes of a setting, spells a scheme in range, and then has a salt that the scheme's
--- method keeps, it spells the setting with this scheme and this salt.
+-- method keeps, it spells the setting with this scheme and this salt. In `k`, `.0` is the field of the salt, `.1.0`
+-- what follows it in `after` (`.1.1`), `.1.2` that the field ends there, and `.2` that the method keeps this salt of
+-- it.
 pub Spells-from_SpellsScheme : (text : List ℕ) (scheme : Scheme) (after salt : List ℕ) → IsSettingText text → SpellsScheme text scheme after → IsScheme scheme → SpellsSalt (method_of scheme) after salt → Spells text (record { scheme = scheme; salt = salt })
 Spells-from_SpellsScheme text scheme after salt t s c k = record {
   short = t.short;
@@ -66,7 +68,7 @@ Spells-from_SpellsScheme text scheme after salt t s c k = record {
   salt = KeepsSalt-from_KeepsField scheme k.0 salt c k.2;
 }
 
--- ---- fronts without a cost
+-- ---- fronts without a cost part
 
 -- If a text spells rounds of SHA-crypt, it has a well-formed `rounds=` field or doesn't begin with `rounds=`.
 SpellsRounds-not-LacksRounds : (r : Rounds) (part after : List ℕ) → SpellsRounds r part after → LacksRounds (part ++ after) → ⊥
@@ -99,7 +101,8 @@ LacksCost-from_LacksCharacters text after e lacks = ((after, e), none)
     none Md5crypt z m s = absurd cc
     none (Shacrypt sha r) z m s = (sha_method-not_others sha).1 m
 
--- A text with the prefix of one method can't lack the cost part of another.
+-- A text with the prefix of one method can't lack the cost part of another, since `lacks.0` says that it begins with
+-- the other's prefix.
 other_prefix-not-LacksCost : (text : List ℕ) (a b : Method) (after : List ℕ) → (a ≡ b → ⊥) → text ≡ prefix a ++ after → LacksCost b text → ⊥
 other_prefix-not-LacksCost text a b after differ e lacks = differ (prefix_unique a b after lacks.0.0 (sym e ∙ lacks.0.1)).0
 
@@ -161,6 +164,7 @@ module _ (text : List ℕ) (is_text : IsSettingText text) where
     scrypt_numbers_unique : (m : ScryptParams) (after : List ℕ) → SpellsScheme text (Scrypt m) after → n ≡ m
     scrypt_numbers_unique m after s = let same : Scrypt n ≡ Scrypt m = (scheme_unique text (Scrypt n) (Scrypt m) rest after spelled s).0 in cc
 
+    -- A text that spells numbers in range also passes the stage `ScryptRange`, and with accepted ones `AboveCeiling`.
     refused-from_ceiling_stage : IsInRange n → (fault : SettingFault) → FirstFrom 6 fault → IsRefused text fault
     refused-from_ceiling_stage inside fault first = refused-from_range_stage fault (inr (λ b. b.3 (subst IsInRange (scrypt_numbers_unique b.0 b.1 b.2) inside), first))
 

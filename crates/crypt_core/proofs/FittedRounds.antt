@@ -44,6 +44,8 @@ rounds_bytes-le-mul n digest len salt =
 
 -- ---- the rounds that fit
 
+-- fitting digest limit len: the fitting rounds before they are clamped, for a digest of `digest` bytes, a password of
+-- `len` bytes and a salt of 16.
 abbrev fitting : ℕ → ℕ → ℕ → ℕ
 fitting digest limit len = (limit - shacrypt_bytes digest 255 0 len 16) / (digest + 2 * len + 16)
 
@@ -167,6 +169,7 @@ fewest_rounds-le-limit_floor digest len small short =
 limit_floor-le-policy_limit : (scheme : Scheme) → limit_floor ≤ policy_limit scheme
 limit_floor-le-policy_limit scheme = grind arith
 
+-- The fewest rounds of SHA-crypt, in a `rounds=` field.
 abbrev fewest : Rounds
 fewest = record { count = 1000; is_written = true }
 

@@ -69,10 +69,12 @@ number_below-iff-last_value_below k n small =
 
 -- ---- the bytes of a number
 
+-- bytes_of k n: the k lowest bytes of n, highest first.
 unfoldable pub bytes_of : ℕ → ℕ → List ℕ
 bytes_of zero n = []
 bytes_of (suc k) n = bytes_of k (n / 256) ++ (n % 256) ∷ []
 
+-- joined bytes: the number that has these bytes, highest first.
 unfoldable pub joined : List ℕ → ℕ
 joined bytes = fold (λ number byte. number * 256 + byte) 0 bytes
 

@@ -21,6 +21,7 @@ excluded_bytes_not_dollar = All-from_recursion (λ b. b ≢ dollar) (codes ":;*!
 IsSettingByte-dollar : IsSettingByte dollar
 IsSettingByte-dollar = (omega arith, omega arith, λ inside. All-contains (λ b. b ≢ dollar) (codes ":;*!\\") dollar excluded_bytes_not_dollar inside refl)
 
+-- A canonical setting followed by a `$` and a packed digest spells that setting.
 pub hashed_spells : (kept : SettingValue) (digest : List ℕ) → Spells (canonical_text kept) kept
     → Spells (canonical_text kept ++ dollar ∷ packed (method_of kept.scheme) digest) kept
 hashed_spells kept digest spelled =

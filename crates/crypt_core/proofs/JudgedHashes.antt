@@ -7,10 +7,13 @@ use Rattle.crypt_core.specs.Settings.{SettingValue, Spells}
 use Rattle.crypt_core.specs.declared.finding.Finding.{Finding}
 use Rattle.crypt_core.specs.declared.scheme.Scheme.{Scheme}
 
+-- What `JudgesHash` says of the setting in a field is what an audit finds in the field.
 pub Finds-from_JudgesHash : (new : Scheme) (budget : ℕ) (field : List ℕ) (kept : SettingValue) (finding : Finding) → Spells field kept
     → JudgesHash new budget field kept finding → Finds new budget field finding
 Finds-from_JudgesHash new budget field kept finding spells (standing, has, is) = subst (Finds new budget field) (sym is) (kept, spells, refl, refl, has)
 
+-- What holds of the setting that was read from a field holds of each setting that the field spells, because it spells
+-- only one.
 pub JudgesHash-any_spelled : (new : Scheme) (budget : ℕ) (field : List ℕ) (read kept : SettingValue) (finding : Finding) → IsReadOneWay field
     → Spells field read → JudgesHash new budget field read finding → Spells field kept → JudgesHash new budget field kept finding
 unfolding IsReadOneWay

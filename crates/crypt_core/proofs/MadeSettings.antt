@@ -49,15 +49,18 @@ HasNumerals-from_IsAccepted params accepted =
     let low : params.log_n < 24 = lt_of_not-le (λ high. let power : 2 ^ 24 ≤ n = pow_mono high in omega arith) in
     (omega (arith, low), omega (arith, blocks, table, within), omega (arith, parts, within))
 
+-- The canonical cost part of a scheme in range spells the cost, before a salt of characters of the alphabet.
 SpellsCost-cost_part : (scheme : Scheme) (salt : List ℕ) → IsScheme scheme → All (Contains alphabet) salt → SpellsCost scheme (cost_part scheme) (salt ++ [])
 SpellsCost-cost_part Md5crypt salt c all = refl
 SpellsCost-cost_part (Shacrypt sha r) salt c all = SpellsRounds-cost_part sha r.count r.is_written (salt ++ []) c (λ flag. salt-not-begins_with_rounds salt all)
 SpellsCost-cost_part (Scrypt n) salt c all = let says = HasNumerals-from_IsAccepted n c in (refl, says.0, says.1, says.2)
 
+-- A scheme in range keeps all of such a salt, if it isn't longer than the method's limit.
 KeepsSalt-whole : (scheme : Scheme) (salt : List ℕ) → IsScheme scheme → length salt ≤ salt_limit (method_of scheme) → All (Contains alphabet) salt → KeepsSalt scheme salt salt
 KeepsSalt-whole (Scrypt n) salt c short all = (c, refl, (short, all))
 KeepsSalt-whole scheme salt c short all = sym (take_all (salt_limit (method_of scheme)) salt short)
 
+-- So this scheme and this salt are a setting that a text spells.
 pub IsSetting-from_parts : (scheme : Scheme) (salt : List ℕ) → IsScheme scheme → length salt ≤ salt_limit (method_of scheme) → All (Contains alphabet) salt → IsSetting (record { scheme = scheme; salt = salt })
 IsSetting-from_parts scheme salt c short all =
     let kept : SettingValue = record { scheme = scheme; salt = salt } in (
@@ -73,7 +76,7 @@ pub IsSetting-given_salt : (scheme : Scheme) (kept salt : List ℕ) → IsScheme
 IsSetting-given_salt scheme kept salt c takes kept_is_salt =
     subst (λ (xs : List ℕ). IsSetting (record { scheme = scheme; salt = xs })) (sym kept_is_salt) (IsSetting-from_parts scheme salt c takes.short takes.characters)
 
--- ---- what is made
+-- ---- schemes made from a method and rounds
 
 pub IsAccepted-made_params : (rounds : ℕ) → rounds ≤ 11 → IsAccepted (record { log_n = rounds + 7; r = 32; p = 1 })
 IsAccepted-made_params rounds high =
@@ -92,6 +95,7 @@ pub make_refused_length : (m : Method) (rounds : ℕ) (salt : List ℕ) → (len
 unfolding IsMakeRefused
 make_refused_length m rounds salt bad = inl (refl, bad)
 
+-- A salt of a length that the method accepts doesn't break the rule on the length.
 salt_length-breaks_no_rule : (m : Method) (salt : List ℕ) → 0 < length salt → length salt ≤ salt_limit m → (length salt ≡ 0) ⊎ (salt_limit m < length salt) → ⊥
 salt_length-breaks_no_rule m salt some short (inl none) = omega arith
 salt_length-breaks_no_rule m salt some short (inr long) = omega (arith, short, long)
@@ -112,12 +116,12 @@ not-BreaksMake m rounds salt h takes SaltLength = salt_length-breaks_no_rule m s
 not-BreaksMake m rounds salt h takes SaltCharacter = λ b. b h.characters
 not-BreaksMake m rounds salt h takes Cost = λ b. b takes
 
--- If a method, rounds and a salt have an error, they break some rule.
+-- If an error is that of the first rule that a method, rounds and a salt break, they break some rule.
 pub IsMakeRefused-breaks_some : (m : Method) (rounds : ℕ) (given : Option (List ℕ)) (fault : MakeFault) → IsMakeRefused m rounds given fault → ((f : MakeFault) → ¬ BreaksMake m rounds given f) → ⊥
 unfolding IsMakeRefused
 IsMakeRefused-breaks_some m rounds given fault refused none = none fault (first_breaks make_faults (BreaksMake m rounds given) fault refused)
 
--- A method, rounds and a salt have at most one error.
+-- The error of the first rule that a method, rounds and a salt break is unique.
 pub make_refusal_unique : (m : Method) (rounds : ℕ) (given : Option (List ℕ)) (f g : MakeFault) → IsMakeRefused m rounds given f → IsMakeRefused m rounds given g → f ≡ g
 unfolding IsMakeRefused
 make_refusal_unique m rounds given f g rf rg = first_unique make_faults (BreaksMake m rounds given) f g rf rg
@@ -128,12 +132,14 @@ pub Err-from_IsMakeRefused : {T : Type 0} (m : Method) (rounds : ℕ) (given : O
 Err-from_IsMakeRefused m rounds given (Ok x) ok err fault refused = absurd (IsMakeRefused-breaks_some m rounds given fault refused ok)
 Err-from_IsMakeRefused m rounds given (Err f) ok err fault refused = ap (λ (g : MakeFault). Err g) (make_refusal_unique m rounds given f fault err refused)
 
--- If a result is Ok only if no rule is broken, and otherwise has the error of the first broken rule, it is Ok exactly
--- if no rule is broken.
+-- Let a result be Ok only if no rule is broken, and otherwise have the error of the first broken rule. Then it is Ok
+-- exactly if no rule is broken.
 pub IsOk-iff_no_broken_rule : {T : Type 0} (m : Method) (rounds : ℕ) (given : Option (List ℕ)) (r : Result T MakeFault) → OnOk r ((f : MakeFault) → ¬ BreaksMake m rounds given f) → IfErr r (IsMakeRefused m rounds given) → IsOk r ↔ ((f : MakeFault) → ¬ BreaksMake m rounds given f)
 IsOk-iff_no_broken_rule m rounds given (Ok x) ok err = (λ e. ok, λ none. refl)
 IsOk-iff_no_broken_rule m rounds given (Err f) ok err = (λ e. absurd (cc e), λ none. absurd (IsMakeRefused-breaks_some m rounds given f err none))
 
+-- Where `Setting::make` has refused the salt, the checker computes `IsOk result` in the clause `accepted` to
+-- `false ≡ true`. Both sides of that equivalence are false.
 pub false-iff_no_broken_rule : (m : Method) (rounds : ℕ) (given : Option (List ℕ)) (fault : MakeFault) → IsMakeRefused m rounds given fault
     → (false ≡ true → (f : MakeFault) → ¬ BreaksMake m rounds given f) × (((f : MakeFault) → ¬ BreaksMake m rounds given f) → false ≡ true)
 false-iff_no_broken_rule m rounds given fault refused = (λ e. absurd (cc e), λ none. absurd (IsMakeRefused-breaks_some m rounds given fault refused none))

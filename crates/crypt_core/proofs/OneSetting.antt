@@ -43,6 +43,7 @@ pub sha_method-not_others : (sha : Sha) → (sha_method sha ≢ methods.Md5crypt
 sha_method-not_others Sha256 = (λ e. absurd (cc e), λ e. absurd (cc e))
 sha_method-not_others Sha512 = (λ e. absurd (cc e), λ e. absurd (cc e))
 
+-- What follows a method's prefix spells the cost of only one scheme of this method.
 cost_unique : (a b : Scheme) (p q x y : List ℕ) → method_of a ≡ method_of b → SpellsCost a p x → SpellsCost b q y → p ++ x ≡ q ++ y → (a ≡ b) × (x ≡ y)
 cost_unique Md5crypt Md5crypt p q x y m ca cb e = (refl, sym (ap (λ (z : List ℕ). z ++ x) ca) ∙ e ∙ ap (λ (z : List ℕ). z ++ y) cb)
 cost_unique (Shacrypt a r) (Shacrypt b s) p q x y m ca cb e =
@@ -63,6 +64,7 @@ scheme_unique text a b x y sa sb =
     let fronts = prefix_unique (method_of a) (method_of b) (sa.0 ++ x) (sb.0 ++ y) (sym sa.1 ∙ sb.1) in
     cost_unique a b sa.0 sb.0 x y fronts.0 sa.2 sb.2 fronts.1
 
+-- A scheme keeps only one salt of a field.
 salt_unique : (scheme : Scheme) (f s t : List ℕ) → KeepsSalt scheme f s → KeepsSalt scheme f t → s ≡ t
 salt_unique (Scrypt n) f s t a b = a.1 ∙ sym b.1
 salt_unique scheme f s t a b = a ∙ sym b

@@ -39,6 +39,7 @@ is_place n places i = eqb (index_in places (get_or places i 0)) i && nat_lt (get
 digest_with : ℕ → List ℕ → List ℕ → List ℕ
 digest_with n places bytes = map (λ i. slice_index bytes (index_in places i)) (range_with_len 0 n)
 
+-- The bytes of `digest_with` at the given places are the given bytes.
 map-digest_with : (n : ℕ) (places bytes : List ℕ) → length places ≡ n → list_all (is_place n places) (range_with_len 0 n) ≡ true
     → length bytes ≡ length places → map (slice_index (digest_with n places bytes)) places ≡ bytes
 unfolding is_place digest_with
@@ -52,6 +53,7 @@ map-digest_with n places bytes long all same =
     ∙ get_or-map-range_with_len (λ k. slice_index bytes (index_in places k)) 0 n place place 0 (ltb-true _ _ parts.1) (omega arith)
     ∙ ap (slice_index bytes) index)
 
+-- `digest_with` gives n bytes.
 digest_with-is_digest : (n : ℕ) (places bytes : List ℕ) → All (λ b. b < 256) bytes
     → (length (digest_with n places bytes) ≡ n) × All (λ b. b < 256) (digest_with n places bytes)
 unfolding digest_with
@@ -90,7 +92,10 @@ fold_bytes-below digest (p ∷ ps) number bound all small =
     let product : bound * 256 * 256 ^ length ps ≡ bound * 256 ^ suc (length ps) = rw power (grind arith) in
     rw product at rest
 
--- If `fills` holds of the bound and the groups, the last character of a packed digest has a value below the bound.
+-- If `fills` holds of the bound and the groups, the last character of a packed digest has a value below the bound. In
+-- `last`, `.0` is that value, `.2` that it is below 4^k exactly if the number is below 256^k, and `.3` that the last
+-- character has it. `rest.1` is `EndsBelow` of the other groups: the value of the last character (`.0`), that it is
+-- below the bound (`.1`), and that the character has it (`.2`).
 EndsBelow-packed_by : (bound : ℕ) (groups : List (List ℕ)) (digest : List ℕ) → fills bound groups ≡ true → All (λ b. b < 256) digest
     → (0 < length (packed_by groups digest)) × EndsBelow bound (packed_by groups digest)
 unfolding fills EndsBelow

@@ -48,6 +48,7 @@ IsEndOfField-drop [] n here = subst IsEndOfField (sym (drop-nil n)) tt
 IsEndOfField-drop (x ∷ xs) zero here = here (omega arith)
 IsEndOfField-drop (x ∷ xs) (suc n) here = IsEndOfField-drop xs n (λ below. here (omega arith))
 
+-- The field at the front of a text ends before the first `$`, or at the end of the text.
 pub HasField-first_dollar : (xs : List ℕ) (n : ℕ) → n ≡ unwrap_or (position is_dollar xs) (length xs) → HasField xs (take n xs)
 HasField-first_dollar xs n found =
     let n_is_position : n ≡ position_or_len is_dollar xs = found ∙ unwrap_or-position is_dollar xs in (
@@ -75,10 +76,12 @@ LacksNumber-no_dollar xs n h whole other rest number parts =
     let same = field_unique (take n xs) other h.0 (dollar ∷ rest) h.2 (IsField-rounds_number other rest number) (sym h.1 ∙ parts) in
     omega (arith, whole, ap length h.1, length-append (take n xs) h.0, length-take n xs, ap length same.1)
 
+-- After the first k items of a list, `length xs - k` are left, so taking that many takes all.
 pub take-drop_rest : (xs : List ℕ) (k : ℕ) → take (length xs - k) (drop k xs) ≡ drop k xs
 take-drop_rest xs k = ap (λ (n : ℕ). take n (drop k xs)) (sym (length-drop k xs)) ∙ take-length (drop k xs)
 
--- If the field does not reach the end of the text, the text is the field, a `$`, and what follows.
+-- If the field does not reach the end of the text, the text is the field, a `$`, and what follows. In `h`, `.0` is what
+-- follows the field, and `.2.1` that it is empty or begins with a `$`.
 pub append-number_dollar_rest : (xs : List ℕ) (n : ℕ) → HasField xs (take n xs) → n < length xs → xs ≡ take n xs ++ (dollar ∷ take (length xs - (n + 1)) (drop (n + 1) xs))
 append-number_dollar_rest xs n h below =
     let rest_is : h.0 ≡ drop n xs = append_cancel_left (take n xs) h.0 (drop n xs) (sym h.1 ∙ sym (take-append-drop n xs)) in
@@ -93,8 +96,8 @@ digit_range [] i number lt = absurd number
 digit_range (d ∷ ds) zero number lt = (omega (arith, number.0), number.1)
 digit_range (d ∷ ds) (suc i) number lt = number.2 i 0 (omega arith)
 
--- If a number is the value of the first i digits, capped, then adding digit i and capping again gives the value of the
--- first i + 1 digits, capped.
+-- If a number is the value of the first i digits, capped, then appending digit i to it and capping again gives the
+-- value of the first i + 1 digits, capped.
 pub capped_value-more : (ds : List ℕ) (i number digit : ℕ) → i < length ds → IsRoundsNumber ds → digit ≡ get_or ds i 0 → number ≡ min (digits_value 10 (take i ds)) max_rounds → min (number * 10 + (digit - 48)) max_rounds ≡ min (digits_value 10 (take (i + 1) ds)) max_rounds
 capped_value-more ds i number digit lt is_number digit_is so_far =
     let range = digit_range ds i is_number lt in

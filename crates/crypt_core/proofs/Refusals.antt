@@ -19,7 +19,8 @@ use Rattle.crypt_core.proofs.DollarFields.{field_unique}
 use Rattle.crypt_core.proofs.OneSetting.{prefix_unique, scheme_unique, setting_unique}
 use Rattle.crypt_core.proofs.FirstBroken.{first_breaks, first_unique}
 
--- A text that spells a scheme lacks no method's cost part.
+-- A text that spells a scheme lacks no method's cost part. In `lacks`, `.0.0` is what follows the method's prefix in
+-- the text (`.0.1`), and `.1` is that no scheme of the method is spelled.
 pub SpellsScheme-not-LacksCost : (text : List ℕ) (scheme : Scheme) (after : List ℕ) (m : Method) → SpellsScheme text scheme after → LacksCost m text → ⊥
 SpellsScheme-not-LacksCost text scheme after m s lacks =
     let same = prefix_unique (method_of scheme) m (s.0 ++ after) lacks.0.0 (sym s.1 ∙ lacks.0.1) in
@@ -31,7 +32,8 @@ KeepsSalt-scrypt (Scrypt m) n field salt e k = let same : m ≡ n = cc in (subst
 KeepsSalt-scrypt Md5crypt n field salt e k = absurd cc
 KeepsSalt-scrypt (Shacrypt sha r) n field salt e k = absurd cc
 
--- A text that spells a setting fails at no stage of reading.
+-- A text that spells a setting fails at no stage of reading. `KeepsSalt-scrypt` gives, for the parameters of scrypt,
+-- that they are in range (`.0.0`) and within the ceiling (`.0.1`), and that the field is a salt of scrypt (`.1`).
 pub Spells-fails_no_stage : (text : List ℕ) (kept : SettingValue) → Spells text kept → (fault : SettingFault) → FailsStage text fault → ⊥
 Spells-fails_no_stage text kept s TooLong b = omega (arith, s.short)
 Spells-fails_no_stage text kept s BadCharacter b = b s.bytes
@@ -73,6 +75,7 @@ pub Ok-from_Spells : (text : List ℕ) (r : Result SettingValue SettingFault) �
 unfolding IsReadOneWay
 Ok-from_Spells text r spelled refused kept s = one_reading text r (Ok kept) (IsReading-from_clauses text r spelled refused) s
 
+-- Likewise, if a text is refused, the result is its error.
 pub Err-from_IsRefused : (text : List ℕ) (r : Result SettingValue SettingFault) → IfOk r (Spells text) → IfErr r (IsRefused text) → (fault : SettingFault) → IsRefused text fault → r ≡ Err fault
 unfolding IsReadOneWay
 Err-from_IsRefused text r spelled refused fault s = one_reading text r (Err fault) (IsReading-from_clauses text r spelled refused) s

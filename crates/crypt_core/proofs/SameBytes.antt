@@ -9,8 +9,8 @@ use Rattle.std.proofs.lemmas.Slice.Eq.{bytes_eq-Decides}
 use Rattle.std.proofs.lemmas.Nat.{and_le_l, and_le_r, le_or_l, le_or_r}
 use lib.Bits.{xor_add_and, xor_self}
 
--- If the OR is 0 exactly if the first i bytes are equal, then with the next difference it is 0 exactly if the first i +
--- 1 bytes are.
+-- One step of the loop: if `differ` is right for the first i bytes, that is, if it is 0 exactly when they are equal,
+-- then after the OR with the next difference it is right for the first i + 1 bytes.
 pub differ-zero_iff_fronts_equal : (xs ys : List ℕ) (i differ : ℕ) → i < length xs → i < length ys → differ ≡ 0 ↔ take i xs ≡ take i ys
     → bit_or differ (bit_xor (get_or xs i 0) (get_or ys i 0)) ≡ 0 ↔ take (i + 1) xs ≡ take (i + 1) ys
 differ-zero_iff_fronts_equal xs ys i differ inside also so_far =

@@ -20,16 +20,18 @@ IsField-rounds_number (d ∷ ds) rest number = (
   end_of_field-cases (dollar ∷ rest) refl,
 )
 
--- The `rounds=` field, with what follows it, is the word followed by the digits, the `$` and the rest.
+-- A `rounds=` field and the rest after it are `rounds=`, the digits, a `$` and the rest.
 pub rounds_field-append : (digits rest : List ℕ) → rounds_field digits ++ rest ≡ rounds_word ++ (digits ++ (dollar ∷ rest))
 rounds_field-append digits rest = rw (append_assoc, append_assoc) refl
 
+-- Two texts that begin with `rounds=` fields are the same only if the fields and what follows them are.
 pub rounds_field-injective : (d e x y : List ℕ) → IsRoundsNumber d → IsRoundsNumber e → rounds_field d ++ x ≡ rounds_field e ++ y → (d ≡ e) × (x ≡ y)
 rounds_field-injective d e x y nd ne same =
     let inner : d ++ (dollar ∷ x) ≡ e ++ (dollar ∷ y) = append_cancel_left rounds_word _ _ (sym (rounds_field-append d x) ∙ same ∙ rounds_field-append e y) in
     let both = field_unique d e (dollar ∷ x) (dollar ∷ y) (IsField-rounds_number d x nd) (IsField-rounds_number e y ne) inner in
     (both.0, cc (both.1))
 
+-- The next lemma for rounds in parts: a number, and whether it is written.
 rounds_unique-by_parts : (m n : ℕ) (f g : Bool) (p q x y : List ℕ) → SpellsRounds (record { count = m; is_written = f }) p x → SpellsRounds (record { count = n; is_written = g }) q y → p ++ x ≡ q ++ y → (m ≡ n) × (f ≡ g) × (x ≡ y)
 rounds_unique-by_parts m n true true p q x y a b e =
     let same : rounds_field a.0 ++ x ≡ rounds_field b.0 ++ y = sym (ap (λ (z : List ℕ). z ++ x) a.2) ∙ e ∙ ap (λ (z : List ℕ). z ++ y) b.2 in
@@ -47,7 +49,7 @@ rounds_unique-by_parts m n false false p q x y a b e =
 abbrev rounds_of : ℕ → Bool → Rounds
 rounds_of n f = record { count = n; is_written = f }
 
--- What follows a prefix spells rounds in one way only.
+-- What follows SHA-crypt's prefix spells rounds in one way only.
 pub rounds_unique : (a b : Rounds) (p q x y : List ℕ) → SpellsRounds a p x → SpellsRounds b q y → p ++ x ≡ q ++ y → (a ≡ b) × (x ≡ y)
 rounds_unique a b p q x y ra rb e =
     let all = rounds_unique-by_parts a.count b.count a.is_written b.is_written p q x y ra rb e in
@@ -55,6 +57,7 @@ rounds_unique a b p q x y ra rb e =
     let flag : a.is_written ≡ b.is_written = all.1 in
     (ap (λ (n : ℕ). rounds_of n a.is_written) count ∙ ap (rounds_of b.count) flag, all.2)
 
+-- Capping a number at `max_rounds` before it is clamped makes no difference.
 clamped-min : (n : ℕ) → clamped (min n max_rounds) ≡ clamped n
 clamped-min n = omega arith
 

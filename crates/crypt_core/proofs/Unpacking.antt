@@ -32,7 +32,9 @@ pub record Unpacks (groups : List (List ℕ)) (text : List ℕ) : Type 0 where
   pub count : length bytes ≡ length (order groups)
   pub packs : (digest : List ℕ) → map (slice_index digest) (order groups) ≡ bytes → packed_by groups digest ≡ text
 
--- Unpacks a text that has the length of one packed group and a last value that this group can have.
+-- Unpacks a text that has the length of one packed group, and whose last character has a value that is possible for
+-- this group. `last_value` is the value of the last character: `.2` says that it is below 4^k exactly if the number is
+-- below 256^k, and `.3` that the character has it.
 Unpacks-one_group : (places text : List ℕ) → length text ≡ length places + 1 → All (Contains alphabet) text → EndsBelow (4 ^ length places) text
     → 4 ^ length places ≤ 64 → Unpacks (places ∷ []) text
 unfolding EndsBelow order joined
@@ -88,6 +90,7 @@ fills bound (places ∷ next ∷ groups) = eqb (length places) 3 && fills bound 
 unfoldable pub text_length : List (List ℕ) → ℕ
 text_length groups = sum_by (λ places. length places + 1) groups
 
+-- Unpacks a text of several groups, one group after another.
 pub Unpacks-from_fills : (bound : ℕ) (groups : List (List ℕ)) (text : List ℕ) → fills bound groups ≡ true → length text ≡ text_length groups
     → All (Contains alphabet) text → EndsBelow bound text → Unpacks groups text
 unfolding fills EndsBelow text_length

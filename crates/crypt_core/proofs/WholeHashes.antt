@@ -74,7 +74,9 @@ pub not_whole-fits_none : (whole : Bool) (text : List ℕ) (kept : SettingValue)
     → ¬ IsTrue whole → (password : List ℕ) → ¬ Fits password text
 not_whole-fits_none whole text kept spelled decides lacks password fits = lacks (decides.1 (IsWhole-from_Fits password text kept spelled fits))
 
--- A text that begins with its canonical setting and a `$` is whole exactly if the rest is packed.
+-- A text that begins with its canonical setting and a `$` is whole exactly if the rest is packed. For the second
+-- direction, `found` says that the text is whole: it is the same front followed by a packed text, which is then the
+-- rest.
 pub IsWhole-iff_packed : (text front rest : List ℕ) (kept : SettingValue) (packs : Bool) → front ≡ canonical_text kept ++ dollar ∷ []
     → text ≡ front ++ rest → IsTrue packs ↔ IsPacked (method_of kept.scheme) rest → IsTrue packs ↔ IsWhole text kept
 IsWhole-iff_packed text front rest kept packs front_is cut decides =

@@ -2,7 +2,7 @@
 -- src/work.rt, `cost_by-le-at_64` serves `Scheme::policy_limit`, and `cost-le-longest_password` serves the audits of
 -- run_core: the longest password, or one of 64 bytes, costs at least as much as any shorter one. Shorter passwords have
 -- shorter messages, except for the pieces for the binary digits of the length. There it matters that 1024 and 64 are
--- powers of two: such a length has one digit more than any smaller one.
+-- powers of two: such a length has more digits than any smaller one.
 use Rattle.std.proofs.Common.{ℕ, zero, suc, ◌+◌, ◌-◌, ◌*◌, ◌/◌, ◌%◌, ◌^◌, ◌<◌, ◌≤◌, Bool, true, false, cond, nat_eq, length, inl, inr, arith, ◌≡◌, refl}
 use Rattle.std.specs.Int.{div_ceil}
 use Rattle.std.proofs.lemmas.Bool.{cases_order}
@@ -54,14 +54,15 @@ digit_bytes-le-mul_of_below_pow (suc k) one other most (suc n) one_le other_le b
     piece true = one_le
     piece false = other_le
 
--- IsPower k most: the length `most` is 2 ^ k, so its highest binary digit is its only 1.
+-- IsPower k most: the length `most` is 2 ^ k and at least 64. Its highest binary digit is its only 1, so the pieces for
+-- its digits have the bytes that `digits` (SHA-crypt) and `single` (md5crypt) say.
 record IsPower (k most : ℕ) : Type 0 where
   power : most ≡ 2 ^ k
   digits : (one : ℕ) → digit_bytes one most most ≡ one + k * most
   single : digit_bytes 1 1 most ≡ k + 1
   wide : 64 ≤ most
 
--- A length of 2 ^ k has one binary digit more than any smaller length, so its pieces have no fewer bytes.
+-- A length of 2 ^ k has more binary digits than any smaller length, so its pieces have no fewer bytes.
 digit_bytes-le-at_power : (k most one n : ℕ) → IsPower k most → one ≤ most → n ≤ most → digit_bytes one n n ≤ digit_bytes one most most
 digit_bytes-le-at_power k most one n is_power small short = elim (cases_order n most) [
   | inl same ↦ rw same (omega arith)

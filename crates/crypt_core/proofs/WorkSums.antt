@@ -31,6 +31,7 @@ div_ceil-more n d some = div_ceil-suc n d some ∙ sym (go (n / d) (n % d)) wher
   go q zero = omega arith
   go q (suc r) = grind (arith, nat_tests)
 
+-- A division that rounds up does not make a number larger.
 div_ceil-le : (n d : ℕ) → 0 < d → div_ceil n d ≤ n
 div_ceil-le zero d some = omega (arith, div-le_self 0 d, mod-le 0 d)
 div_ceil-le (suc n) d some = rw (← add-one n, div_ceil-suc n d some) (omega (arith, div-le_self n d))

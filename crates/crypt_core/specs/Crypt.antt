@@ -30,8 +30,8 @@ abbrev pub allocates : Scheme → Bool
 allocates (Scrypt params) = true
 allocates scheme = false
 
--- IsAfterRefusedGrowth before scheme after: the meter's counts are `before` before a hash and `after` once one of
+-- IsAfterFailedAllocation before scheme after: the meter's counts are `before` before a hash and `after` once one of
 -- scrypt's allocations in it has failed. This holds for no other scheme, since only scrypt allocates.
-abbrev pub IsAfterRefusedGrowth : Work → Scheme → Work → Type 0
-IsAfterRefusedGrowth before (Scrypt params) after = IsAfterRefusal before params after
-IsAfterRefusedGrowth before scheme after = ⊥
+abbrev pub IsAfterFailedAllocation : Work → Scheme → Work → Type 0
+IsAfterFailedAllocation before (Scrypt params) after = IsAfterRefusal before params after
+IsAfterFailedAllocation before scheme after = ⊥

@@ -1,7 +1,7 @@
 -- Whether a password matches a stored hash (crypt(3)).
 use Rattle.std.specs.Prelude.{◌≡◌, ℕ, ◌↔◌, Bool, List, IsTrue, Result, Ok, Err}
 use Rattle.prims_core.specs.declared.meter.Work.{Work}
-use Rattle.crypt_core.specs.Crypt.{crypt, IsAfterRefusedGrowth}
+use Rattle.crypt_core.specs.Crypt.{IsAfterFailedAllocation, crypt}
 use Rattle.crypt_core.specs.Refusals.{IsRefused}
 use Rattle.crypt_core.specs.Settings.{SettingValue, Spells}
 use Rattle.crypt_core.specs.Work.{raised_by, work}
@@ -25,4 +25,4 @@ Compares password stored before after (Ok verdict) =
     × (after ≡ raised_by before (work password kept))
 Compares password stored before after (Err (Setting fault)) = IsRefused stored fault × (after ≡ before)
 Compares password stored before after (Err OutOfMemory) =
-    (kept : SettingValue) × Spells stored kept × IsAfterRefusedGrowth before kept.scheme after
+    (kept : SettingValue) × Spells stored kept × IsAfterFailedAllocation before kept.scheme after

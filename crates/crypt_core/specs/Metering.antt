@@ -1,7 +1,7 @@
 -- What a meter counts for a hash, and for a hash that fails for lack of memory.
 use Rattle.std.specs.Prelude.{◌≡◌, ◌≤◌, ◌+◌, ℕ, List, length, Result, OnOk, OnErr}
 use Rattle.prims_core.specs.declared.meter.Work.{Work}
-use Rattle.crypt_core.specs.Crypt.{IsAfterRefusedGrowth}
+use Rattle.crypt_core.specs.Crypt.{IsAfterFailedAllocation}
 use Rattle.crypt_core.specs.Settings.{SettingValue}
 use Rattle.crypt_core.specs.Work.{cost, raised_by, work, work_limit, IsBelow}
 
@@ -15,4 +15,4 @@ pub record IsMetered {A E : Type 0} (before : Work) (password : List ℕ) (kept 
   pub count : OnOk result (after ≡ raised_by before (work password kept))
   pub below : IsBelow (work password kept) work_limit
   pub within : after.bytes ≤ before.bytes + cost kept (length password)
-  pub refused : OnErr result (IsAfterRefusedGrowth before kept.scheme after)
+  pub refused : OnErr result (IsAfterFailedAllocation before kept.scheme after)

@@ -16,7 +16,7 @@ bytes_by (Scrypt params) = needed_bytes params
 bytes_by scheme = 0
 
 -- AreEnough enough scheme: memory is enough for a hash with the scheme, where `enough` says for which of scrypt's
--- parameters it is. The other schemes need no memory.
+-- parameters the memory is enough. The other schemes need no memory.
 abbrev pub AreEnough : (ScryptParams → Type 0) → Scheme → Type 0
 AreEnough enough (Scrypt params) = enough params
 AreEnough enough scheme = ⊤

@@ -5,8 +5,8 @@ use Rattle.crypt_core.specs.declared.scheme.Scheme.{Scheme}
 use Rattle.crypt_core.specs.declared.scheme.Scheme.TheVariants.{Md5crypt, Shacrypt, Scrypt}
 use Rattle.crypt_core.specs.declared.scheme.Sha.TheVariants.{Sha256, Sha512}
 
--- is_outdated_by old new: whether `new` replaces `old`. A scheme is replaced by any other method, SHA-crypt also by the
--- same method with more rounds, and scrypt by scrypt with a greater N * r * p. md5crypt has no cost that could grow.
+-- is_outdated_by old new: whether `new` replaces `old`. Every scheme of another method does. So does SHA-crypt over the
+-- same digest function with more rounds, and scrypt with a greater N * r * p. md5crypt's number of rounds is fixed.
 abbrev pub is_outdated_by : Scheme → Scheme → Bool
 is_outdated_by Md5crypt Md5crypt = false
 is_outdated_by (Shacrypt Sha256 old) (Shacrypt Sha256 new) = nat_lt old.count new.count

@@ -85,7 +85,8 @@ NeverFits scheme limit len = limit < new_cost scheme len
 
 -- ---- audits
 
--- greatest_cost_by scheme: the cost of a hash with this scheme for the longest password and the longest salt.
+-- greatest_cost_by scheme: the cost of a hash with this scheme for the longest password and the longest salt that the
+-- method keeps.
 abbrev pub greatest_cost_by : Scheme → ℕ
 greatest_cost_by scheme = cost_by scheme password_limit (method_row (method_of scheme)).salt_limit
 

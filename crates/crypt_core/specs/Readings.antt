@@ -7,7 +7,8 @@ use Rattle.crypt_core.specs.declared.setting.fault.SettingFault.{SettingFault}
 use Rattle.crypt_core.specs.declared.stored.StoredField.{StoredField}
 use Rattle.crypt_core.specs.declared.stored.StoredField.TheVariants.{Empty, Locked, Hash}
 
--- IsReading text result: the text spells this setting, or is refused with this error.
+-- IsReading text result: reading the text gives this result: the setting that the text spells, or the error of the
+-- first stage at which reading fails.
 abbrev pub IsReading : List ℕ → Result SettingValue SettingFault → Type 0
 IsReading text (Ok kept) = Spells text kept
 IsReading text (Err fault) = IsRefused text fault
@@ -17,8 +18,8 @@ IsReading text (Err fault) = IsRefused text fault
 unfoldable pub IsReadOneWay : List ℕ → Type 0
 IsReadOneWay text = (one other : Result SettingValue SettingFault) → IsReading text one → IsReading text other → one ≡ other
 
--- IsFieldReading field result: the field is empty, or locked, or this stored hash. Otherwise the error is that of the
--- first rule of a setting that the field breaks.
+-- IsFieldReading field result: reading the field gives this result: the field is empty, is locked, or is this stored
+-- hash; or the error is that of the first rule of a setting that the field breaks.
 abbrev pub IsFieldReading : List ℕ → Result StoredField SettingFault → Type 0
 IsFieldReading field (Ok Empty) = field ≡ []
 IsFieldReading field (Ok Locked) = IsLocked field

@@ -1,4 +1,5 @@
--- Schemes: a method with its cost. The N of scrypt's parameters, `row_count`, can be imported from here too.
+-- Schemes: a method with its rounds, or scrypt with its parameters. The N of scrypt's parameters, `row_count`, can be
+-- imported from here too.
 pub use Rattle.kdf_core.specs.Params.{row_count}
 use Rattle.kdf_core.specs.Params.{IsAccepted}
 use Rattle.crypt_core.specs.Rounds.{IsRounds}

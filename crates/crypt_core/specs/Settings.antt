@@ -1,4 +1,5 @@
--- Settings: which string spells which setting, and the one canonical form of each (crypt(5)).
+-- Settings: which string spells which setting, and the one canonical form of each (crypt(5)). Definitions and lemmas
+-- name a setting `kept`, because it is what is kept of a string that spells it.
 use Rattle.std.specs.Prelude.{◌≡◌, ◌≢◌, ◌⊎◌, ℕ, ◌^◌, ◌<◌, ◌≤◌, if◌then◌else◌, List, [], ◌∷◌, ◌++◌, length, take, All, Contains, MatchBool, decimal, codes}
 use Rattle.std.specs.Str.Parse.{digits_value}
 use Rattle.prims_core.specs.Alphabet.{alphabet, numerals}
@@ -10,7 +11,7 @@ use Rattle.crypt_core.specs.declared.scheme.Scheme.{Scheme}
 use Rattle.crypt_core.specs.declared.scheme.Scheme.TheVariants.{Md5crypt, Shacrypt, Scrypt}
 use Rattle.crypt_core.specs.Methods.{method_row}
 
--- What a setting keeps of a string: the scheme with its cost, and the salt.
+-- What a setting keeps of a string: the scheme and the salt.
 pub record SettingValue : Type 0 where
   pub scheme : Scheme
   pub salt : List ℕ
@@ -62,8 +63,8 @@ SpellsRounds rounds part after = MatchBool rounds.is_written
 abbrev pub scrypt_part : ScryptParams → List ℕ
 scrypt_part cost = numerals 1 cost.log_n ++ (numerals 5 cost.r ++ numerals 5 cost.p)
 
--- SpellsCost scheme part after: this part, followed by `after`, spells the cost of the scheme. For scrypt, log2 N fits
--- one character, and r and p fit five each.
+-- SpellsCost scheme part after: this part, followed by `after`, is a cost part that spells the scheme's rounds, or
+-- scrypt's parameters. For scrypt, log2 N fits one character, and r and p fit five each.
 abbrev pub SpellsCost : Scheme → List ℕ → List ℕ → Type 0
 SpellsCost Md5crypt part after = part ≡ []
 SpellsCost (Shacrypt sha rounds) part after = SpellsRounds rounds part after
@@ -89,7 +90,8 @@ KeepsSalt (Scrypt params) field salt = IsAccepted params × (salt ≡ field) × 
 KeepsSalt scheme field salt = salt ≡ take (method_row (method_of scheme)).salt_limit field
 
 -- Spells text kept: the text spells this setting. It has no more bytes than the limit, all of them setting bytes. It
--- begins with the prefix and the cost of the scheme, then comes the field of the salt, and then a rest that is ignored.
+-- begins with the prefix and the cost part of the scheme, then comes the field of the salt, and then a rest that is
+-- ignored.
 pub record Spells (text : List ℕ) (kept : SettingValue) : Type 0 where
   pub short : length text ≤ setting_limit
   pub bytes : All IsSettingByte text
@@ -101,8 +103,8 @@ pub record Spells (text : List ℕ) (kept : SettingValue) : Type 0 where
 
 -- ---- the canonical form
 
--- cost_part scheme: the cost of the scheme in canonical form. SHA-crypt's rounds appear only if the setting had a
--- `rounds=` field.
+-- cost_part scheme: the cost part of the scheme in canonical form: the rounds, or scrypt's parameters. SHA-crypt's
+-- rounds appear only if the setting had a `rounds=` field.
 abbrev pub cost_part : Scheme → List ℕ
 cost_part Md5crypt = []
 cost_part (Shacrypt sha rounds) = if rounds.is_written then rounds_field (decimal rounds.count) else []

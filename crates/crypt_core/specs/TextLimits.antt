@@ -3,7 +3,7 @@ use Rattle.std.specs.Prelude.{ℕ, ◌+◌, length}
 use Rattle.crypt_core.specs.MethodLimits.{packed_len, prefix, scrypt_salt_limit}
 use Rattle.crypt_core.specs.declared.method.Method.TheVariants as methods
 
--- The number of characters of scrypt's cost part.
+-- The number of characters of scrypt's cost part (`scrypt_part`): one for log2 N, five for r and five for p.
 abbrev pub scrypt_part_len : ℕ
 scrypt_part_len = 1 + 5 + 5
 

@@ -175,7 +175,8 @@ fn digest_of<M: Memory>(
             Sha::Sha512 => shacrypt::<CountedSha512>(password, salt, rounds.count(), meter),
         }),
         Scheme::Scrypt(params) => {
-            // The prover learns here that accepted parameters are in range, as the call below requires.
+            // From `row_count` the prover learns that the parameters are bounded, and so that each count of the work is
+            // below 2^41, as the clause `metered` says.
             prove!(params.row_count() > 1);
             memory.scrypt(password.bytes(), salt, &params, meter)
         }

@@ -1,5 +1,6 @@
 //! Hashing with the schemes of crypt(5): passwords, methods, settings with given or generated salts, the hash of each
-//! method, and its work, which is computed before hashing. The version of mkpasswd is here too.
+//! method, and its work, which is computed before hashing. The crate also checks and audits stored hashes, and has the
+//! recommended policy and the version of mkpasswd.
 #![tactic(auto)]
 
 pub mod finding;

@@ -74,6 +74,7 @@ fn opening(password: &[u8], salt: &[u8], meter: &mut Meter) -> ArrayVec<u8, 64>
     running.feed(meter, Method::Md5crypt.row().prefix);
     running.feed(meter, salt);
     feed_cycle(&mut running, meter, alternate.as_slice(), password.len());
+    // An empty password has no first byte, but its length 0 has no binary digits either.
     let first = &password[..password.len().min(1)];
     feed_digits(&mut running, meter, password.len(), &[0], first);
     running.finish(meter)

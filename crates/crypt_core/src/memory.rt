@@ -20,7 +20,8 @@ use std::alloc::{AllocError, Global};
 
 /// Memory that scrypt works in.
 pub trait Memory {
-    // Whether the memory is known to be enough for scrypt with these parameters.
+    // `IsEnough memory params`: the memory is known to be enough for scrypt with these parameters. Memory that is known
+    // to be enough stays so after a call of `scrypt` (clause `kept`).
     ghost IsEnough: { Self → ScryptParams → Type 0 };
 
     /// Returns scrypt's digest, which has 32 bytes (RFC 7914).

@@ -20,13 +20,14 @@ use crate::scheme::{Rounds, Scheme, Sha};
 use crate::work::shacrypt_bound;
 use prims_core::counted::{Counted, CountedSha256, CountedSha512};
 
-/// The recommended rounds of SHA-crypt.
+/// The recommended rounds of SHA-crypt. docs/SECURITY.md compares their work with other recommendations (Strength).
 pub const RECOMMENDED_ROUNDS: u32 = 656_000;
 
 /// The recommended rounds of scrypt, as `-R` takes them: N = 2^14, r = 32, p = 1.
 const RECOMMENDED_SCRYPT_ROUNDS: u32 = 7;
 
-/// The least limit of a policy, in bytes digested and mixed.
+/// The least limit of a policy, in bytes digested and mixed. With each method's recommended rounds, a new hash of a
+/// password of 64 bytes costs less.
 const LIMIT_FLOOR: u64 = 150_000_000;
 
 /// The policy's limit is twice the cost of a new hash of a password of this length in bytes, if that is above the

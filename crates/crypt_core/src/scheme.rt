@@ -1,5 +1,6 @@
-//! Schemes: a method with its cost, but without a salt. A scheme decides the work of a hash for given lengths of
-//! password and salt ([`Scheme::bound`], [`Scheme::cost`]), and whether a newer scheme replaces it.
+//! Schemes: a method with its rounds, or scrypt with its N, r and p, but without a salt. A scheme decides the work of a
+//! hash for given lengths of password and salt ([`Scheme::bound`], [`Scheme::cost`]), and whether a newer scheme
+//! replaces it.
 
 ghost use Rattle.std.specs.Prelude.{◌≡◌, ◌+◌, ◌≤◌, ◌↔◌, IsOk, IfOk, IfErr, true, false};
 ghost use Rattle.kdf_core.specs.Params.{IsAccepted};
@@ -22,10 +23,10 @@ pub const MIN_ROUNDS: u64 = 1000;
 /// The rounds of SHA-crypt if the setting has no `rounds=` field (Drepper's specification).
 pub const DEFAULT_ROUNDS: u32 = 5000;
 
-/// The least rounds from which [`Scheme::made`] makes a scheme of scrypt, apart from 0.
+/// The fewest rounds from which [`Scheme::made`] makes a scheme of scrypt, apart from 0. The range is that of crypt(5).
 const MIN_SCRYPT_ROUNDS: u32 = 6;
 
-/// The most rounds from which [`Scheme::made`] makes a scheme of scrypt.
+/// The most rounds from which [`Scheme::made`] makes a scheme of scrypt. The range is that of crypt(5).
 const MAX_SCRYPT_ROUNDS: u32 = 11;
 
 /// The rounds of scrypt that 0 stands for in [`Scheme::made`].
@@ -108,10 +109,10 @@ pub enum Sha {
     Sha512,
 }
 
-/// A method with its cost.
+/// A method with its rounds, or scrypt with its N, r and p.
 #[derive(Clone, Copy, Debug, PartialEq, Eq)]
 pub enum Scheme {
-    /// FreeBSD's md5crypt, whose cost is fixed.
+    /// FreeBSD's md5crypt, whose number of rounds is fixed.
     Md5crypt,
     /// SHA-crypt over this digest, with its rounds.
     Shacrypt(Sha, Rounds),
@@ -122,12 +123,12 @@ pub enum Scheme {
 impl Scheme {
     /// Returns the scheme of a method with these rounds.
     ///
-    /// 0 stands for the method's default. SHA-crypt takes any other number, clamped to 1000..999999999, with a
+    /// 0 stands for the method's default. SHA-crypt takes any other number, clamped by [`Rounds::written`], with a
     /// `rounds=` field. scrypt takes 6 to 11 (`N = 2^(rounds + 7)`, r = 32, p = 1). md5crypt ignores the rounds.
     ///
     /// # Errors
     ///
-    /// - `Cost`: the method is scrypt, and the number is neither 0 nor from 6 to 11.
+    /// - `Cost`: the method is scrypt, which does not take the number.
     pub fn made(method: Method, rounds: u32) -> Result<Scheme, MakeFault>
         ensures made { IfOk result (λ scheme. scheme ≡ made_scheme method rounds) }
         ensures in_range { IfOk result IsScheme }
@@ -151,8 +152,8 @@ impl Scheme {
         }
     }
 
-    /// Returns the method of the scheme. The contract also states that the rounds, or scrypt's parameters, are in
-    /// range.
+    /// Returns the method of the scheme. The contract also states that SHA-crypt's rounds are in range, and that
+    /// scrypt's parameters are accepted.
     pub fn method(&self) -> Method
         ensures method { result ≡ method_of self.now }
         ensures in_range { IsScheme self.now }
@@ -160,6 +161,7 @@ impl Scheme {
         match self {
             Scheme::Md5crypt => Method::Md5crypt,
             Scheme::Shacrypt(sha, rounds) => {
+                // The call of `count` gives the prover what the clause `in_range` says of SHA-crypt.
                 prove!(u64::from(rounds.count()) <= MAX_ROUNDS);
                 match sha {
                     Sha::Sha256 => Method::Sha256crypt,
@@ -167,6 +169,7 @@ impl Scheme {
                 }
             }
             Scheme::Scrypt(params) => {
+                // The call of `log_n` gives the prover what the clause `in_range` says of scrypt.
                 prove!(params.log_n() > 0);
                 Method::Scrypt
             }

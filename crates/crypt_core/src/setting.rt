@@ -1,4 +1,4 @@
-//! Settings: the method, cost and salt that a string of crypt(5) spells.
+//! Settings: the scheme and the salt that a string of crypt(5) spells.
 //!
 //! Every `Setting` is spelled by some string. [`Setting::read`] parses such a string, and `Setting::text` returns the
 //! setting's one canonical form.
@@ -27,16 +27,17 @@ pub const SETTING_LIMIT: usize = 384;
 /// The characters with which SHA-crypt's `rounds=` field begins.
 const ROUNDS_WORD: &[u8] = b"rounds=";
 
-/// The number of characters of scrypt's cost part: one of log2 N, five of r and five of p.
-pub(crate) const COST_CHARACTERS: usize = 1 + 5 + 5;
+/// The number of characters of scrypt's cost part, which encodes N, r and p: one for log2 N, five for r and five for p.
+pub(crate) const SCRYPT_PART_LEN: usize = 1 + 5 + 5;
 
 /// The most bytes of a setting in canonical form: scrypt's prefix of 3 bytes, its cost part and its salt.
-pub const CANONICAL_LIMIT: usize = 3 + COST_CHARACTERS + SCRYPT_SALT_LIMIT;
+pub const CANONICAL_LIMIT: usize = 3 + SCRYPT_PART_LEN + SCRYPT_SALT_LIMIT;
 
-/// The capacity in bytes of a buffer for a setting or a hash.
+/// The capacity in bytes of a buffer for a setting or a hash. The longest hash has 144 bytes
+/// ([`HASH_LIMIT`](crate::hash::HASH_LIMIT)).
 pub const TEXT_CAPACITY: usize = 160;
 
-/// A setting: a method with its cost, and the salt that the method keeps.
+/// A setting: a scheme, and the salt that its method keeps.
 #[derive(Debug, Drop)]
 pub struct Setting {
     scheme: Scheme,
@@ -62,7 +63,7 @@ impl Setting {
         self.scheme.method()
     }
 
-    /// Returns the scheme: the method with its cost.
+    /// Returns the scheme: the method with its rounds, or scrypt with its N, r and p.
     pub fn scheme(&self) -> Scheme
         ensures { result ≡ self.now.scheme }
     {

@@ -54,6 +54,7 @@ pub fn shacrypt<H: Counted>(
 {
     let password = password.bytes();
     let mut digest = opening::<H>(password, salt, meter);
+    // The message of the digest DS has the salt 16 + A[0] times (step 18).
     let salt_times = 16 + usize::from(digest.as_slice()[0]);
     let password_string = string_of::<H>(password, password.len(), meter);
     let salt_string = string_of::<H>(salt, salt_times, meter);

@@ -10,7 +10,7 @@
 //! with a report returns 1 for yes: it did what its name says, the password matches, the stored hash is outdated, or
 //! for an audit the stored hash is current. Otherwise it returns 0. It always writes the whole report. The report's
 //! `error` is 0, or the number of the reason why the call failed. After an error, `out` holds the token `*0` or `*1`,
-//! which no password matches, cut to the capacity of `out`.
+//! which no password matches, and a zero byte. If `out` is too small, the token is cut so that the zero byte fits.
 //!
 //! If several errors apply, the call reports the first in this order: password, setting, method, rounds, budget,
 //! capacity of `out`, memory. A login and an audit check the method and the rounds before the field. A login that can't
@@ -18,8 +18,8 @@
 //! the field's error. [`web_verify`], [`web_login`] and [`web_audit`] take a stored field, and report `Locked` for a
 //! locked one and `NoHash` for an empty one. The other calls take a setting, and report the first rule of a setting
 //! that such a field breaks. The method 0 is the recommended one, sha512crypt, and rounds of 0 are the recommended
-//! ones. The numbers of methods and errors, the report, and what `out` holds after an error are the same as in the
-//! calls for C.
+//! ones: 656000 for SHA-crypt, and 7 for scrypt. The numbers of methods and errors, the report, and what `out` holds
+//! after an error are the same as in the calls for C.
 //!
 //! Only scrypt needs memory: `words` of 4 bytes, and `bytes`. [`web_need`] and [`web_login_need`] report how much of
 //! both a call needs with the same arguments. If at least that much is lent, the call never reports `OutOfMemory`. The
@@ -37,7 +37,7 @@ ghost use Rattle.call_core.specs.Arguments.{IsSchemeMade, TakesNewRounds};
 ghost use Rattle.call_core.specs.Audits.{Audits, ForeseesLogins, IsCurrent};
 ghost use Rattle.call_core.specs.Checks.{IsDead, Opens, Verifies};
 ghost use Rattle.call_core.specs.Hashes.{Hashes};
-ghost use Rattle.call_core.specs.Limits.{AreFitted, ReportsRounds, Limits, limit_bytes, limit_of, meant, twice};
+ghost use Rattle.call_core.specs.Limits.{AreFitted, ReportsRounds, Limits, default_budget, limit_bytes, limit_of, meant};
 ghost use Rattle.call_core.specs.Logins.{JudgesStoredHash, LogsIn, TreatsFieldsAlike};
 ghost use Rattle.call_core.specs.Names.{PutsMessage, PutsSchemeName};
 ghost use Rattle.call_core.specs.Needs.{HashesWith, IsNeed, LoginHashesWith};
@@ -56,7 +56,7 @@ use call_core::message::put_message;
 use call_core::name::put_scheme_name;
 use call_core::need::{hash_need, login_need};
 use call_core::rehash::report_rehash;
-use call_core::report::{Report, tell, tell_current, tell_outdated};
+use call_core::report::{Report, write_report, write_report_is_current, write_report_is_outdated};
 use call_core::setting::put_setting;
 use call_core::verify::verify;
 use crypt_core::memory::Lent;
@@ -99,23 +99,24 @@ pub extern "C" fn web_verify(
     ensures bytes { report.new.work.bytes ≤ budget }
 {
     let mut lent = Lent::new(words, bytes);
-    let told = verify(&mut lent, password, stored, budget, &mut Meter::new());
-    tell(report, told)
+    let reported = verify(&mut lent, password, stored, budget, &mut Meter::new());
+    write_report(report, reported)
 }
 
 /// Checks the password of a login, as `mkpasswd_login` does for C. Returns 1 exactly if a new hash can have the method
-/// and the rounds and [`web_verify`] returns 1 within the same limit, unless too little memory is lent for scrypt.
-/// After a 1 the report's `outdated` says whether [`web_needs_rehash`] would return 1; after a 0 `outdated` is 0.
+/// and the rounds, the password matches the stored hash, and that hash costs at most the limit, unless too little
+/// memory is lent for scrypt. With a budget of 0, a new hash of the password must be within the limit too. After a 1
+/// the report's `outdated` says whether [`web_needs_rehash`] would return 1; after a 0 `outdated` is 0.
 ///
-/// If the field has no valid setting, or one whose hash can cost more than the limit, the call hashes the password with
-/// the method, the rounds and a fixed salt, drops the hash, and returns 0. So a login with such a field takes the work
-/// of a new hash. For an unknown name, pass an empty field. Whatever the field is, the call makes at most one hash, and
-/// digests and mixes no more bytes than the limit.
+/// If the field has no valid setting, or one whose hash can cost more than the limit, the call returns 0, but first
+/// hashes the password with the method, the rounds and a fixed salt, if the limit allows it, and drops the hash. So a
+/// login with such a field takes the work of a new hash. For an unknown name, pass an empty field. Whatever the field
+/// is, the call makes at most one hash, and digests and mixes no more bytes than the limit.
 ///
 /// The limit is the budget, except that a budget of 0 stands for the limit of the policy: twice the cost of a new hash
 /// with the method and the rounds for a password of 64 bytes, and at least 150000000. The policy's limit admits a new
 /// hash of every password of up to 64 bytes. With it, the call refuses a password whose new hash would cost more,
-/// without work and whatever the field is. Rounds of 0 are the recommended ones.
+/// without work and whatever the field is.
 ///
 /// # Errors
 ///
@@ -156,7 +157,7 @@ pub extern "C" fn web_login(
     ensures bytes { report.new.work.bytes ≤ limit_of method rounds budget (length password.now) }
 {
     let mut lent = Lent::new(words, bytes);
-    let told = log_in(
+    let reported = log_in(
         &mut lent,
         password,
         field,
@@ -165,7 +166,7 @@ pub extern "C" fn web_login(
         Limit::of(budget),
         &mut Meter::new(),
     );
-    tell(report, told)
+    write_report(report, reported)
 }
 
 /// Reports the memory that [`web_login`] needs with these arguments: that of the stored hash if it can be checked
@@ -189,7 +190,8 @@ pub extern "C" fn web_login_need(
 /// for C.
 ///
 /// A new hash would replace a stored one that has another method, fewer rounds, or for scrypt a smaller `N * r * p`.
-/// The report's `outdated` is the same 0 or 1, and the report's `error` is 0 in both cases. The call hashes nothing.
+/// The report's `outdated` is the same 0 or 1. If the arguments are valid, the report's `error` is 0 whichever it is.
+/// The call hashes nothing.
 ///
 /// # Errors
 ///
@@ -206,13 +208,13 @@ pub extern "C" fn web_needs_rehash(
     ensures outdated { result ≡ pos 1 ↔ IsOutdated stored.now method rounds }
     ensures rehashes { Rehashes stored.now method rounds report.new }
 {
-    tell_outdated(report, report_rehash(stored, method, rounds))
+    write_report_is_outdated(report, report_rehash(stored, method, rounds))
 }
 
 /// Hashes a password with a setting, and writes the hash and a zero byte to `out`. With the same budget, [`web_verify`]
 /// accepts the hash for the password, unless too little memory is lent for scrypt.
 ///
-/// After a refusal `out` holds the token `*0`, or `*1` if the setting begins with `*0`, cut to the capacity of `out`.
+/// After an error, `out` holds the token `*0`, or `*1` if the setting begins with `*0`.
 ///
 /// # Errors
 ///
@@ -241,8 +243,8 @@ pub extern "C" fn web_hash(
     ensures apart { (token setting.now ≢ setting.now) × ((kept : SettingValue) → ¬ Spells (token setting.now) kept) }
 {
     let mut lent = Lent::new(words, bytes);
-    let told = put_hash(&mut lent, password, setting, budget, out, &mut Meter::new());
-    tell(report, told)
+    let reported = put_hash(&mut lent, password, setting, budget, out, &mut Meter::new());
+    write_report(report, reported)
 }
 
 /// Reports the memory that [`web_verify`] or [`web_hash`] needs with this password and budget. `text` is the stored
@@ -257,8 +259,7 @@ pub extern "C" fn web_need(password: &[u8], text: &[u8], budget: u64, need: &mut
 /// Makes a setting with a method, the rounds and three random numbers, and writes it and a zero byte to `out`.
 ///
 /// The method is 1 for md5crypt, 5 for sha256crypt, 6 for sha512crypt or 7 for scrypt, as in their hashes. The rounds
-/// are those of `mkpasswd -R`, except that 0 stands for the recommended ones. After a refusal `out` holds the token
-/// `*0`, cut to the capacity of `out`.
+/// are those of `mkpasswd -R`, unless they are 0. After an error, `out` holds the token `*0`.
 ///
 /// # Errors
 ///
@@ -279,7 +280,7 @@ pub extern "C" fn web_setting(
     ensures puts { PutsSetting method rounds (first ∷ second ∷ third ∷ []) out.old report.new out.new }
     ensures locked { result ≡ pos 0 → out.new ≡ put (token []) out.old }
 {
-    tell(
+    write_report(
         report,
         put_setting(method, rounds, [first, second, third], out),
     )
@@ -288,10 +289,10 @@ pub extern "C" fn web_setting(
 /// Audits the stored hash in a field, as `mkpasswd_audit` does for C. Returns 1 if it is current: it is whole, no hash
 /// with its setting costs more than the budget, and a new hash with the method and the rounds would not replace it.
 ///
-/// Rounds of 0 are the recommended ones: 656000 for SHA-crypt, and 7 for scrypt. A budget of 0 is the greatest cost of
-/// a hash with the method and the rounds, and at least that of sha512crypt with 656000 rounds. With a budget of 0, a
-/// hash is also over budget if a login with the method, the rounds and the limit of the policy would refuse even the
-/// empty password.
+/// A budget of 0 is the greatest cost of a hash with the method and the rounds, and at least that of sha512crypt with
+/// 656000 rounds. With a budget of 0, a hash is also over budget if with its setting even the empty password costs more
+/// than the limit of the policy: then no login with the method, the rounds and a budget of 0 checks any password
+/// against it.
 ///
 /// For a valid hash the report has the scheme, its rounds, or scrypt's N, r and p, and the greatest cost of a hash with
 /// its setting, for a password of 1,024 bytes. After `UnknownScheme` the report has the number of the scheme of
@@ -324,7 +325,7 @@ pub extern "C" fn web_audit(
     ensures checked { ForeseesLogins field.now method rounds budget report.new }
     ensures idle { report.new.work ≡ no_work }
 {
-    tell_current(report, report_audit(field, method, rounds, budget))
+    write_report_is_current(report, report_audit(field, method, rounds, budget))
 }
 
 /// Reports the limit on the cost of a login and of a new hash for a method, rounds and a budget, and the length of the
@@ -343,7 +344,7 @@ pub extern "C" fn web_limit(method: u32, rounds: u32, budget: u64, report: &mut 
     ensures answers { Answers result report.new }
     ensures limits { Limits method rounds (meant budget) report.new }
 {
-    tell(report, report_limit(method, rounds, Limit::of(budget)))
+    write_report(report, report_limit(method, rounds, Limit::of(budget)))
 }
 
 /// Reports rounds with which a new hash of any password of this length is within the limit for a method, rounds and a
@@ -375,10 +376,10 @@ pub extern "C" fn web_rounds(
     ensures none { (scheme : Scheme) → IsSchemeMade TakesNewRounds method rounds scheme → password_len ≤ password_limit
         → result ≡ pos 0 → NeverFits scheme (limit_bytes (meant budget) scheme) password_len }
     ensures policy { (scheme : Scheme) → IsSchemeMade TakesNewRounds method rounds scheme → password_len ≤ password_limit
-        → budget ≡ twice → result ≡ pos 1 }
+        → budget ≡ default_budget → result ≡ pos 1 }
 {
-    let told = report_rounds(password_len, method, rounds, Limit::of(budget));
-    tell(report, told)
+    let reported = report_rounds(password_len, method, rounds, Limit::of(budget));
+    write_report(report, reported)
 }
 
 /// Reports the greatest cost and the greatest work of a hash with this setting, for any password of this length. The
@@ -393,11 +394,11 @@ pub extern "C" fn web_cost(setting: &[u8], password_len: usize, report: &mut Rep
     ensures answers { Answers result report.new }
     ensures bounds { Bounds password_len setting.now report.new }
 {
-    tell(report, report_bound(password_len, setting))
+    write_report(report, report_bound(password_len, setting))
 }
 
-/// Writes the message for the reason with this number and a zero byte to `out`, cut to the capacity of `out`. If no
-/// reason has the number, the message is `unknown reason`.
+/// Writes the message for the reason with this number to `out`, followed by a zero byte. If `out` is too small, the
+/// message is cut so that the zero byte fits. If no reason has the number, the message is `unknown reason`.
 ///
 /// Returns 1, or 0 if the message was cut or no reason has the number.
 #[unsafe(no_mangle)]
@@ -407,8 +408,8 @@ pub extern "C" fn web_message(error: u32, out: &mut [u8]) -> i32
     put_message(error, out)
 }
 
-/// Writes the crypt(5) name of the scheme with this number and a zero byte to `out`, cut to the capacity of `out`. If
-/// no scheme has the number, the name is `unknown scheme`.
+/// Writes the crypt(5) name of the scheme with this number to `out`, followed by a zero byte. If `out` is too small,
+/// the name is cut so that the zero byte fits. If no scheme has the number, the name is `unknown scheme`.
 ///
 /// Returns 1, or 0 if the name was cut or no scheme has the number.
 #[unsafe(no_mangle)]

@@ -1,4 +1,7 @@
 //! The tests by topic, from the alphabet up to whole commands, and helpers that they share.
+//!
+//! Where a test asserts that numbers of its own table are in a range, the assertion lets the checker prove the
+//! precondition of the next call.
 
 mod alphabet;
 mod commands;
@@ -17,7 +20,8 @@ use std::alloc::{AllocError, Global};
 use std::fmt::Debug;
 use std::process::Abort;
 
-// Asserts that a call returned the expected value, `wanted`. `what` names the case in the message of a failure.
+// Asserts that `told`, which a call returned, equals the expected value, `wanted`. `what` names the case in the message
+// of a failure.
 fn want<T: Debug + Drop + PartialEq>(rt: &impl Abort, told: T, wanted: T, what: &str) {
     assert_eq!(rt; told, wanted, "{what}");
 }

@@ -139,7 +139,7 @@ unfolding pbkdf2_sha256
 length-pbkdf2_sha256 password salt count =
     let blocks = div_ceil count 32 in
     let derived = flat_map (block password salt 1) (range_with_len 1 blocks) in
-    -- T_1 to T_q have 32 bytes each.
+    -- Each block T_1, T_2, .. has 32 bytes.
     let length_derived : length derived ≡ blocks * 32 =
     length-flat_map_same (block password salt 1) 32 (range_with_len 1 blocks)
     (λ k d inside. ap length (block-one password salt _) ∙ length-chain password salt _ 1 (omega arith))

@@ -40,7 +40,7 @@ iterate-keeps : {A : Type 0} (P : A → Type 0) (step : A → A) → ((x : A) �
 iterate-keeps P step keeps zero x holds = holds
 iterate-keeps P step keeps (suc n) x holds = iterate-keeps P step keeps n (step x) (keeps x holds)
 
--- `chunks_exact` cuts a list into as many pieces of the given size as the list has room for.
+-- `chunks_exact` cuts a list into as many pieces of the given size as fit into it.
 length-chunks_exact : (items : List ℕ) (size : ℕ) → length (chunks_exact items size) ≡ length items / size
 unfolding chunks_exact
 length-chunks_exact items size = length-map-range_with_len (λ i. take size (drop (size * i) items)) 0 (length items / size)
@@ -72,10 +72,12 @@ length-quarter_round (a ∷ b ∷ c ∷ []) four = absurd (omega arith)
 length-quarter_round (a ∷ b ∷ c ∷ d ∷ []) four = refl
 length-quarter_round (a ∷ b ∷ c ∷ d ∷ e ∷ rest) four = absurd (omega arith)
 
+-- A row that is rotated keeps its length.
 length-begun_at : (place : ℕ) (row : List ℕ) → length (begun_at place row) ≡ length row
 length-begun_at place row =
     omega (arith, length-append (drop place row) (take place row), length-drop place row, length-take place row)
 
+-- A row round, a transposition and a double round of a matrix each give a matrix again.
 IsMatrix-row_round : (rows : List (List ℕ)) → IsMatrix rows → IsMatrix (row_round rows)
 unfolding row_round
 IsMatrix-row_round rows matrix =

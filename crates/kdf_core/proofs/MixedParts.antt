@@ -25,7 +25,7 @@ unfoldable pub first_parts : ℕ → ℕ → List ℕ → ℕ → List ℕ
 first_parts n size bytes count =
     flat_map (λ i. mixed_part n (take size (drop (size * i) bytes))) (range_with_len 0 count)
 
--- Before the first iteration, the replaced parts are an empty list, as the bytes before part 0 are.
+-- Before the first iteration, both the replaced parts and the bytes before part 0 are an empty list.
 pub first_parts-zero : (n size : ℕ) (bytes : List ℕ) → take (size * 0) bytes ≡ first_parts n size bytes 0
 unfolding first_parts
 first_parts-zero n size bytes = let none : size * 0 ≡ 0 = omega arith in ap (λ m. take m bytes) none

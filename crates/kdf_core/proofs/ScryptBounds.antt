@@ -53,10 +53,11 @@ IsPower-even rows k power =
 pub IsPower-pos : (rows k : ℕ) → IsPower rows k → 0 < rows
 IsPower-pos rows k power = omega (arith, power.power, pow_pos k)
 
--- The code computes the number of bytes of all parts that the definition has.
+-- The number of bytes of all parts that the code computes is that of the definition.
 pub parts_bytes-product : (params : ScryptParams) (r p : ℕ) → r ≡ params.r → p ≡ params.p → 128 * r * p ≡ parts_bytes params
 parts_bytes-product params r p r_is p_is = ap (λ n. 128 * n * p) r_is ∙ ap (λ n. 128 * params.r * n) p_is
 
+-- Since r * p is at most 2 ^ 22, all parts have at most 2 ^ 29 bytes.
 pub parts_bytes-le : (params : ScryptParams) → IsAccepted params → parts_bytes params ≤ 2 ^ 29
 parts_bytes-le params accepted = omega (arith, (IsBounded-from_IsAccepted params accepted).parts)
 
@@ -78,7 +79,7 @@ digested_bytes-lt before key blocks each more last before_le key_lt blocks_le ea
     let answer : more * last ≤ 2 ^ 33 * last = mul-le-mul_right last more_le in
     omega arith
 
--- The code computes the number of bytes of the table that the definition has.
+-- The number of bytes of the table that the code computes is that of the definition.
 pub table_bytes-product : (params : ScryptParams) (n r : ℕ) → n ≡ row_count params → r ≡ params.r → 4 * (n * (32 * r)) ≡ table_bytes params
 table_bytes-product params n r n_is r_is =
     ap (λ k. 4 * (k * (32 * r))) n_is ∙ (ap (λ k. 4 * (row_count params * (32 * k))) r_is ∙ omega arith)

@@ -1,6 +1,6 @@
 -- The clauses of `derive` and `scrypt`, from the clauses of the calls in them. `scrypt-from_derivations` composes the
 -- two derivations and the mixing between them to the value of the definition. `scrypt_work-digests` and
--- `scrypt_work-bytes` say that the work of these three steps is that of the closed form. `meter-after_two_growths`
+-- `scrypt_work-bytes` say that the work of these three steps is that of the closed form. `meter-after_two_allocations`
 -- gives the meter after the third allocation fails.
 use Rattle.std.proofs.Common.{◌≡◌, ℕ, ◌+◌, ◌*◌, List, length, ap, ◌∙◌, arith}
 use Rattle.std.specs.Int.{div_ceil}
@@ -56,10 +56,10 @@ scrypt_work-bytes params password_length salt_length count first last first_is l
     ∙ ap (λ n. key_bytes password_length + 4 * (params.r * params.p) * tag_bytes (salt_length + 4) + n) answer
 
 -- The counts of a meter after the table and the parts were allocated and the allocation of the halves failed.
-pub meter-after_two_growths : (m0 m1 m2 m3 : Work) (t s table parts : ℕ) → m1 ≡ record m0 { table = m0.table + t }
+pub meter-after_two_allocations : (m0 m1 m2 m3 : Work) (t s table parts : ℕ) → m1 ≡ record m0 { table = m0.table + t }
     → m2 ≡ record m1 { scratch = m1.scratch + s } → m3 ≡ m2 → t ≡ table → s ≡ parts
     → m3 ≡ record m0 { table = m0.table + table; scratch = m0.scratch + parts }
-meter-after_two_growths m0 m1 m2 m3 t s table parts m1_is m2_is m3_is t_is s_is =
+meter-after_two_allocations m0 m1 m2 m3 t s table parts m1_is m2_is m3_is t_is s_is =
     m3_is ∙ (m2_is ∙ (ap (λ (m : Work). record m { scratch = m.scratch + s }) m1_is
     ∙ (ap (λ n. record m0 { table = m0.table + n; scratch = m0.scratch + s }) t_is
     ∙ ap (λ n. record m0 { table = m0.table + table; scratch = m0.scratch + n }) s_is)))

@@ -14,9 +14,9 @@ use prims_core::words::number_be;
 
 /// Fills `out` with the bytes that PBKDF2 derives from a password and a salt (RFC 8018, section 5.2).
 ///
-/// `key` is prepared from the password. Let `out` have q blocks of 32 bytes, the last of which may be short, and let c
-/// be the rounds and s the length of the salt in bytes. Then the call takes `2cq` digests of `q(164 + s) + 192q(c - 1)`
-/// bytes in all.
+/// `key` is prepared from the password. `out` is filled in blocks of 32 bytes, the last of which may be short. Each
+/// block takes two digests in each round. Together, these two digest 164 bytes and the salt in the first round, and 192
+/// bytes in each later round.
 ///
 /// Preconditions:
 ///

@@ -32,11 +32,13 @@ pub(crate) const UNIT_WORDS: usize = UNIT_BYTES / 4;
 ///
 /// Preconditions: `out` has at most `32 * (2^32 - 1)` bytes, and each count of the meter is at most 2^120.
 ///
-/// Three allocations come before all work, in this order: the table of `128 * N * r` bytes, the parts of
+/// The call first makes three allocations, in this order: the table of `128 * N * r` bytes, the parts of
 /// `128 * r * p` bytes, and the halves of `256 * r` bytes. The meter counts these bytes and `2 * N * p` mixings.
-/// With a password of L bytes, a salt of s bytes and q blocks of 32 bytes in `out`, the last of which may be
-/// short, it also counts `8rp + 2q` digests of `4rp(164 + s) + q(164 + 128rp)` bytes in all. If L is above 64,
-/// it counts one more digest, of L bytes.
+///
+/// It also counts two digests for each block of 32 bytes that PBKDF2 derives. The parts are `4 * r * p` such blocks,
+/// and the last block of `out` may be short. For a block of the parts, the two digest 164 bytes and the salt; for a
+/// block of `out`, they digest 164 bytes and all parts. A password of more than 64 bytes takes one more digest, of its
+/// own length.
 ///
 /// # Errors
 ///

@@ -31,6 +31,7 @@ pub fn scrypt_work(params: &Params, password_len: u64, salt_len: u64, out_len: u
     let parts = part * p;
     let blocks = out_len.div_ceil(SHA256_LENGTH as u64);
     let key_digests = u64::from(password_len > SHA256_BLOCK as u64);
+    // PBKDF2 derives the parts as 4rp blocks of 32 bytes, and then the result. Each block takes two digests.
     Work {
         digests: 8 * (r * p) + 2 * blocks + key_digests,
         bytes: key_digests * password_len

@@ -32,6 +32,7 @@ use Rattle.mkpasswd.specs.Private.Options.{HasPassed, parser_by_id}
 
 -- ---- A command whose arguments have no rules about one another
 
+-- all_free rules: whether every rule is free (`is_free`).
 abbrev pub all_free : List Rule → Bool
 all_free = list_all (λ rule. rule.is_free)
 
@@ -41,7 +42,8 @@ is_free_arg-all_free [] e k d lt = absurd (omega arith)
 is_free_arg-all_free (x ∷ xs) e zero d lt = (and_parts _ _ e).0
 is_free_arg-all_free (x ∷ xs) e (suc k) d lt = is_free_arg-all_free xs (and_parts _ _ e).1 k d (omega arith)
 
--- A command all of whose rules are free has no exclusions, conflicts, overrides or groups.
+-- A command all of whose rules are free has no exclusions, conflicts, overrides or groups. `IsPlain` states this of
+-- each argument `k` below their number (`lt`); `d` stands for an argument beyond them, and is not used.
 IsPlain-all_free : (c : Command) → is_ready (shape_of c) ≡ true → HasReadyLeaves c → all_free (shape_of c).rules ≡ true → IsPlain c
 IsPlain-all_free c ready leaves free =
     let simple = ready_simple c ready leaves in
@@ -55,8 +57,8 @@ IsPlain-all_free c ready leaves free =
 
 -- ---- A value of an argument
 
--- IsOnly c k id q: argument k of the command has this id and the parser `q`. No other argument has its id, and `clap`
--- adds none with it when it builds the command.
+-- IsOnly c k id q: argument k of the command has this id, which is not empty, and the parser `q`. No other argument has
+-- its id, and `clap` adds none with it when it builds the command.
 record IsOnly (c : Command) (k : ℕ) (id : Text) (q : ValueParser) : Type 0 where
   within : k < length (args_of c)
   called : (d : Arg) → (slice_index_or (args_of c) k d).id.now ≡ id
@@ -86,7 +88,9 @@ first_text-All P how (v ∷ vs) text all is =
     (v, same, All-get_or P (v ∷ vs) 0 v (omega arith) all)
 
 -- If argument k is the only one with this id, the text of an entry with this id is read from a value that its parser
--- accepts.
+-- accepts. In `pass`, `.0` is on the values of the entry, `.3` says when an entry can be that of a group, and `.4` that
+-- an argument with the entry's id reads values in this way. `any` is an argument with this id: its place and itself
+-- (`.0`, `.1`), that it is there (`.2`, `.3`), its id (`.4.0`), and what holds of it (`.4.1`).
 HasPassed_from_EntryPasses : (c : Command) (m : ArgMatches) (p : IsParsedFrom c m) (k : ℕ) (id : Text) (q : ValueParser) → IsOnly c k id q → groups_of p.built ≡ []
     → (e : Entry) → e.0.now ≡ id → EntryPasses p.built e
     → (text : Text) → option_map (λ s. read_as e.1.reading s.now) (slice_get e.1.vals.items 0) ≡ Some text → HasPassed q text
@@ -112,7 +116,8 @@ HasPassed_from_EntryPasses c m p k id q is no_groups e key pass text read =
       subst (λ (w : ValueParser). Accepts any.1.ignore_case w first.0.now) (own_parser any.0 any.1 any.2 any.3 any.4.0) any.4.1,
     )
 
--- IsOnlyRule rules k r q: rule k is `r`, which has the parser `q`. No other rule has its id.
+-- IsOnlyRule rules k r q: rule k is `r`, which has the parser `q`. No other rule has its id, which is not empty and
+-- neither `help` nor `version`.
 pub record IsOnlyRule (rules : List Rule) (k : ℕ) (r : Rule) (q : ValueParser) : Type 0 where
   pub within : k < length rules
   pub place : (z : Rule) → slice_index_or rules k z ≡ r
@@ -139,26 +144,28 @@ IsOnly_from_IsOnlyRule c k r q rule =
 
 -- ---- The rule with an id, if no two rules have the same id
 
--- No rule has this id.
+-- lacks_id id rules: whether no rule has this id.
 abbrev lacks_id : Text → List Rule → Bool
 lacks_id id = list_all (λ rule. not (bytes_eq rule.id id))
 
--- No two rules have the same id, and no id is empty, `help` or `version`.
+-- have_own_ids rules: whether no two rules have the same id, and no id is empty, `help` or `version`.
 abbrev pub have_own_ids : List Rule → Bool
 have_own_ids [] = true
 have_own_ids (rule ∷ rules) =
     lacks_id rule.id rules && (not (bytes_eq rule.id []) && (not (bytes_eq rule.id (codes "help")) && (not (bytes_eq rule.id (codes "version")) && have_own_ids rules)))
 
+-- Texts that `bytes_eq` tells apart differ.
 bytes_eq-false-ne : {a b : Text} → not (bytes_eq a b) ≡ true → a ≡ b → ⊥
 bytes_eq-false-ne {a} {b} differ same = true≢false (sym ((bytes_eq-Decides a b).1 same) ∙ not-true (bytes_eq a b) differ)
 
+-- If `lacks_id` holds of an id and the rules, no single rule has this id.
 lacks_id-each : (id : Text) (rules : List Rule) → lacks_id id rules ≡ true
     → (j : ℕ) (z : Rule) → j < length rules → bytes_eq (slice_index_or rules j z).id id ≡ true → ⊥
 lacks_id-each id [] all j z lt same = absurd (omega arith)
 lacks_id-each id (rule ∷ rules) all zero z lt same = true≢false (sym same ∙ not-true (bytes_eq rule.id id) (and_parts _ _ all).0)
 lacks_id-each id (rule ∷ rules) all (suc j) z lt same = lacks_id-each id rules (and_parts _ _ all).1 j z (omega arith) same
 
--- Exactly one of the rules has this id, and its parser is `q`.
+-- HaveOne rules id q: exactly one of the rules has this id, and its parser is `q`.
 abbrev HaveOne : List Rule → Text → ValueParser → Type 0
 HaveOne rules id q = (k : ℕ) × (r : Rule) × (r.id ≡ id) × IsOnlyRule rules k r q
 
@@ -170,6 +177,7 @@ IsOnlyRule-parser_by_id (rule ∷ rules) own id q is = go (bytes_eq rule.id id) 
     alone : lacks_id rule.id rules ≡ true
     alone = (and_parts (lacks_id rule.id rules) _ own).0
 
+    -- The rule's id isn't empty, `help` or `version`, and the other rules have their own ids.
     differs_from : (not (bytes_eq rule.id []) ≡ true) × ((not (bytes_eq rule.id (codes "help")) ≡ true) × ((not (bytes_eq rule.id (codes "version")) ≡ true) × (have_own_ids rules ≡ true)))
     differs_from =
         let named = and_parts (not (bytes_eq rule.id [])) _ (and_parts (lacks_id rule.id rules) _ own).1 in
@@ -212,7 +220,8 @@ IsOnlyRule-parser_by_id (rule ∷ rules) own id q is = go (bytes_eq rule.id id) 
         (suc found.0, found.1, found.2, later found.0 found.1 found.2 differs found.3)
 
 -- If rule r is the only one with its id, the text that `clap` found for it was read from a value that its parser
--- accepts.
+-- accepts. `got` is the entry of this id (`got.0`), that it holds `x` (`got.1`), that it has the id (`got.2`), and that
+-- its values passed (`got.3`).
 pub HasPassed-one_text : (c : Command) (m : ArgMatches) (k : ℕ) (r : Rule) (q : ValueParser) → IsParsedFrom c m
     → is_ready (shape_of c) ≡ true → HasReadyLeaves c → all_free (shape_of c).rules ≡ true → IsOnlyRule (shape_of c).rules k r q
     → (text : Text) → one_text (found_of m) r.id ≡ Some text → HasPassed q text

@@ -43,6 +43,7 @@ command-have_own_ids = refl
 
 -- ---- What `clap` makes of some arguments
 
+-- Arguments with several options, a sign and leading zeros in the numbers.
 abbrev arguments : List Text
 arguments =
     codes "-m" ∷ codes "md5" ∷ codes "-R" ∷ codes "+07" ∷ codes "--work" ∷ codes "--budget" ∷ codes "+036" ∷ codes "--check" ∷ codes "--rehash" ∷ codes "x" ∷ codes "ab" ∷ []
@@ -55,7 +56,7 @@ arguments-no_fault : fault_of command arguments ≡ []
 unfolding command clap_on_literals
 arguments-no_fault = refl
 
--- The rows hold exactly what `arguments` gives.
+-- HasArguments rows: the rows hold exactly what `arguments` gives.
 abbrev HasArguments : List Row → Type 0
 HasArguments rows =
     (type_of rows ≡ codes "md5") × (given_salt rows ≡ Some (codes "ab")) × (rounds_of rows ≡ 7) × (number_in (codes "budget") rows ≡ Some 36)
@@ -70,7 +71,7 @@ no_words-no_fault : fault_of command [] ≡ []
 unfolding command clap_on_literals
 no_words-no_fault = refl
 
--- The rows hold the defaults, because no argument is given.
+-- HasNoWords rows: the rows hold the defaults, because no argument is given.
 abbrev HasNoWords : List Row → Type 0
 HasNoWords rows =
     (type_of rows ≡ codes "sha512crypt") × (given_salt rows ≡ None) × (rounds_of rows ≡ 0) × (number_in (codes "budget") rows ≡ None)

@@ -1,8 +1,9 @@
 -- What `clap` makes of the arguments `-m TYPE -S SALT PASSWORD`, if none of the three texts is an option: it accepts
 -- them, and finds the three texts and nothing else. PrintedHash needs this for the clause `prints` of `run_command`.
 --
--- The proof follows `clap` through the five words. Each word leads from one known state to the next without an error,
--- whatever its text is, because `clap`'s tests for options fail on it.
+-- The proof follows `clap` through the five words. Each word leads from one known state to the next without an error.
+-- For TYPE, SALT and PASSWORD this does not depend on the text, because `clap`'s tests for options fail on each of
+-- them.
 use Rattle.std.proofs.Common.{◌≡◌, ◌==◌, ℕ, false, refl, ap, List, [], ◌∷◌, codes, Some, None, inl, inr}
 use Rattle.std.proofs.lemmas.Bool.{ne_eqb}
 use Rattle.std.specs.List.{fold}
@@ -19,16 +20,16 @@ use Rattle.mkpasswd.specs.Options.{command, rounds_of, given_salt, is_set, mode_
 -- ---- A word that is no option
 
 -- None of `clap`'s three tests takes this word for an option.
-record IsPlain (word : Text) : Type 0 where
+record FailsOptionTests (word : Text) : Type 0 where
   pub no_end : bytes_eq word (45 ∷ 45 ∷ []) ≡ false
   pub no_long : long_of word ≡ None
   pub no_short : short_of word ≡ None
 
 -- On a word that is no option, `clap`'s three tests for options fail.
-IsPlain_from_IsNoOption : (word : Text) → IsNoOption word → IsPlain word
-IsPlain_from_IsNoOption word (inl hyphen) = rw hyphen (record { no_end = refl; no_long = refl; no_short = refl })
-IsPlain_from_IsNoOption [] (inr none) = record { no_end = refl; no_long = refl; no_short = refl }
-IsPlain_from_IsNoOption (b ∷ bs) (inr none) =
+FailsOptionTests_from_IsNoOption : (word : Text) → IsNoOption word → FailsOptionTests word
+FailsOptionTests_from_IsNoOption word (inl hyphen) = rw hyphen (record { no_end = refl; no_long = refl; no_short = refl })
+FailsOptionTests_from_IsNoOption [] (inr none) = record { no_end = refl; no_long = refl; no_short = refl }
+FailsOptionTests_from_IsNoOption (b ∷ bs) (inr none) =
     let other : (b == 45) ≡ false = ne_eqb b 45 (λ same. none (bs, ap (λ n. n ∷ bs) same)) in
     record { no_end = rw other; no_long = rw other; no_short = rw other }
 
@@ -73,6 +74,8 @@ walk_with_pending rows id values waiting position = record {
   stopped = None;
 }
 
+-- The states before the first word and after each of the five words, in order. `type_row` and `salt_row` are the rows
+-- that `clap` has made by then: of the type, and of the type and the salt.
 abbrev start : Walk
 start = walk_from nothing_held
 
@@ -97,11 +100,12 @@ salt_row name salt = used (option_rule (codes "salt") (Some 83)) (salt ∷ []) (
 abbrev after_password : Text → Text → Text → Walk
 after_password name salt password = walk_with_pending (salt_row name salt) (codes "password") (password ∷ []) idle 2
 
+-- Each of the five words takes `clap` from the state before it to the state after it.
 Goes-method_option : Goes start (codes "-m") after_method_option
 unfolding shape command clap_on_literals
 Goes-method_option = record { goes = refl; faultless = refl }
 
-Goes-type : (name : Text) → IsPlain name → Goes after_method_option name (after_type name)
+Goes-type : (name : Text) → FailsOptionTests name → Goes after_method_option name (after_type name)
 unfolding shape command walked
 Goes-type name p = record {
   goes = rw (p.no_end, p.no_long, p.no_short);
@@ -112,14 +116,14 @@ Goes-salt_option : (name : Text) → Goes (after_type name) (codes "-S") (after_
 unfolding shape command clap_on_literals
 Goes-salt_option name = record { goes = refl; faultless = refl }
 
-Goes-salt : (name salt : Text) → IsPlain salt → Goes (after_salt_option name) salt (after_salt name salt)
+Goes-salt : (name salt : Text) → FailsOptionTests salt → Goes (after_salt_option name) salt (after_salt name salt)
 unfolding shape command walked
 Goes-salt name salt p = record {
   goes = rw (p.no_end, p.no_long, p.no_short);
   faultless = rw (p.no_end, p.no_long, p.no_short);
 }
 
-Goes-password : (name salt password : Text) → IsPlain password
+Goes-password : (name salt password : Text) → FailsOptionTests password
     → Goes (after_salt name salt) password (after_password name salt password)
 unfolding shape command walked
 Goes-password name salt password p = record {
@@ -127,12 +131,13 @@ Goes-password name salt password p = record {
   faultless = rw (p.no_end, p.no_long, p.no_short);
 }
 
+-- The five words together take `clap` from the first state to the last one.
 GoesOn-hash_arguments : (name salt password : Text) → IsNoOption name → IsNoOption salt → IsNoOption password
     → GoesOn start (hash_arguments name salt password) (after_password name salt password)
 GoesOn-hash_arguments name salt password n s p =
-    first Goes-method_option (first (Goes-type name (IsPlain_from_IsNoOption name n)) (first (Goes-salt_option name)
-    (first (Goes-salt name salt (IsPlain_from_IsNoOption salt s))
-    (first (Goes-password name salt password (IsPlain_from_IsNoOption password p)) stays))))
+    first Goes-method_option (first (Goes-type name (FailsOptionTests_from_IsNoOption name n)) (first (Goes-salt_option name)
+    (first (Goes-salt name salt (FailsOptionTests_from_IsNoOption salt s))
+    (first (Goes-password name salt password (FailsOptionTests_from_IsNoOption password p)) stays))))
 
 -- ---- What the command makes of them
 
@@ -157,9 +162,11 @@ pub record IsGiven (name salt password : Text) (rows : List Row) : Type 0 where
   pub work : is_set (codes "work") rows ≡ false
   pub modes : mode_count rows ≡ 1
 
+-- The rows that `clap` makes of the state after the password.
 abbrev rows_after_password : Text → Text → Text → List Row
 rows_after_password name salt password = finished shape.rules (after_password name salt password).held
 
+-- These rows hold the three texts and nothing else.
 IsGiven-rows_after_password : (name salt password : Text) → IsGiven name salt password (rows_after_password name salt password)
 unfolding shape command
 IsGiven-rows_after_password name salt password = record { type = refl; salt_is = refl; rounds = refl; word = refl; stdin = refl; batch = refl; check = refl; audit = refl; work = refl; modes = refl }

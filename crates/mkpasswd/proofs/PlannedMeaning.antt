@@ -11,8 +11,6 @@ use Rattle.crypt_core.specs.declared.setting.fault.MakeFault.{MakeFault}
 use Rattle.mkpasswd.specs.Options.{BreaksUsage, given_salt, job_rounds, type_of}
 use Rattle.mkpasswd.specs.declared.fault.UsageFault.TheVariants.{Make}
 
--- ---- The rules on the method, the rounds and the salt
-
 module _ (rows : List Row) (method : Method) (named : method_named (type_of rows) ≡ Some method) where
   -- If the method, the rounds and the salt do not break this rule, the arguments do not break it.
   not_BreaksUsage-Make : (fault : MakeFault) → ¬ BreaksMake method (job_rounds method rows) (given_salt rows) fault → ¬ BreaksUsage rows (Make fault)

@@ -58,27 +58,28 @@ module _ (name salt password : Text) (method : Method) (named : method_named nam
       let own = method_named-unique is_job.maker.0 (rw found.type at is_job.maker.1) in
       text-password_answer method salt password job bytes stream (rw (found.audit, found.rounds, found.salt_is, own) at is_job.maker.2) (is_job.work ∙ found.work) bytes_is
 
+  -- A flag can't be both set and not set.
   not_set_and_unset : {set : Bool} → set ≡ false → set ≡ true → ⊥
   not_set_and_unset off on = true≢false (sym on ∙ off)
 
   -- If the command did all that `-m TYPE -S SALT PASSWORD` asks for, it printed the hash. No other plan fits these
   -- arguments.
-  pub PrintsHash_from_EndsWhole : {I O E : Type 0} (Made IsKept : Type 0) (arguments : List Text) (old new : RunState I O E) → arguments ≡ hash_arguments name salt password
-      → EndsWhole Made IsKept arguments old new → PrintsHash method salt password old.out new.out
-  PrintsHash_from_EndsWhole Made IsKept arguments old new are (inr (asked, (error, refuses, by, text, gives))) =
+  pub PrintsHash_from_EndsWhole : {I O E : Type 0} (Made IsNotCalled : Type 0) (arguments : List Text) (old new : RunState I O E) → arguments ≡ hash_arguments name salt password
+      → EndsWhole Made IsNotCalled arguments old new → PrintsHash method salt password old.out new.out
+  PrintsHash_from_EndsWhole Made IsNotCalled arguments old new are (inr (asked, (error, refuses, by, text, gives))) =
       absurd (rw (are, fault_of-hash_arguments name salt password name-IsNoOption salt_is password_is) at refuses.called_for)
-  PrintsHash_from_EndsWhole Made IsKept arguments old new are (inl (Methods, (taken, asks), asked, done)) = absurd (method_named-not_help name method named (rw (IsGiven-matches_of arguments are).type at asks))
-  PrintsHash_from_EndsWhole Made IsKept arguments old new are (inl (One job (Word typed), (taken, (other, unbroken, (is_job, is))), asked, done)) =
+  PrintsHash_from_EndsWhole Made IsNotCalled arguments old new are (inl (Methods, (taken, asks), asked, done)) = absurd (method_named-not_help name method named (rw (IsGiven-matches_of arguments are).type at asks))
+  PrintsHash_from_EndsWhole Made IsNotCalled arguments old new are (inl (One job (Word typed), (taken, (other, unbroken, (is_job, is))), asked, done)) =
       let found = IsGiven-matches_of arguments are in
       let same : Some typed.items ≡ Some password = sym is ∙ found.word in
       rw (text-IsJob (matches_of command arguments) job typed.items old.stream found is_job cc, append-nil) at done.2.run.1.text.shown
-  PrintsHash_from_EndsWhole Made IsKept arguments old new are (inl (One job Input, (taken, (other, unbroken, (is_job, inl is))), asked, done)) =
+  PrintsHash_from_EndsWhole Made IsNotCalled arguments old new are (inl (One job Input, (taken, (other, unbroken, (is_job, inl is))), asked, done)) =
       absurd (not_set_and_unset (IsGiven-matches_of arguments are).stdin is)
-  PrintsHash_from_EndsWhole Made IsKept arguments old new are (inl (One job Input, (taken, (other, unbroken, (is_job, inr none))), asked, done)) =
+  PrintsHash_from_EndsWhole Made IsNotCalled arguments old new are (inl (One job Input, (taken, (other, unbroken, (is_job, inr none))), asked, done)) =
       absurd (omega (arith, (IsGiven-matches_of arguments are).modes))
-  PrintsHash_from_EndsWhole Made IsKept arguments old new are (inl (Batch job, (taken, (other, unbroken, (is_job, is))), asked, done)) =
+  PrintsHash_from_EndsWhole Made IsNotCalled arguments old new are (inl (Batch job, (taken, (other, unbroken, (is_job, is))), asked, done)) =
       absurd (not_set_and_unset (IsGiven-matches_of arguments are).batch is)
-  PrintsHash_from_EndsWhole Made IsKept arguments old new are (inl (Check job, (taken, (other, unbroken, (is_job, is))), asked, done)) =
+  PrintsHash_from_EndsWhole Made IsNotCalled arguments old new are (inl (Check job, (taken, (other, unbroken, (is_job, is))), asked, done)) =
       absurd (not_set_and_unset (IsGiven-matches_of arguments are).check is)
-  PrintsHash_from_EndsWhole Made IsKept arguments old new are (inl (Audit job, (taken, (other, unbroken, (is_job, is))), asked, done)) =
+  PrintsHash_from_EndsWhole Made IsNotCalled arguments old new are (inl (Audit job, (taken, (other, unbroken, (is_job, is))), asked, done)) =
       absurd (not_set_and_unset (IsGiven-matches_of arguments are).audit is)

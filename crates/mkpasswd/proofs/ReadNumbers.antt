@@ -15,15 +15,18 @@ use Rattle.clap.proofs.CallerReads.{signed_reads}
 use Rattle.mkpasswd.specs.Options.{command_rules}
 use Rattle.mkpasswd.specs.Private.Options.{HasPassed, HavePassed, IsNumber, parser_by_id, takes_below}
 
--- What `parse` promises for an unsigned number of this many bits.
+-- Parses bits text read: what `str::parse` promises of its result for this text and an unsigned number of this many
+-- bits.
 abbrev pub Parses : ℕ → Text → Result ℕ ParseIntError → Type 0
 Parses bits text read = ParsesUnsigned bits 10 text read × ExplainsUnsignedError 10 text read × HasUnsignedDigitsIfOk text read
 
--- The number that the digits of a text say.
+-- number_of text: the number that the digits of the text say. A plus may precede them.
 abbrev pub number_of : Text → ℕ
 number_of text = digits_value 10 (without_leading_plus text)
 
--- If a text passed a parser that accepts only numbers below 2^bits, it is read as the number that its digits say.
+-- If a text passed a parser that accepts only numbers below 2^bits, it is read as the number that its digits say. By
+-- `ParsesUnsigned`, the first part of what `str::parse` promises, a number that is read is that number, and a text with
+-- such digits is read as a number, so the value can't be missing.
 ReadsOne-number_of : (bits : ℕ) (parser : ValueParser) → takes_below (2 ^ bits) parser ≡ true → (text : Text) → HasPassed parser text
     → (read : Option ℕ) → ReadsOne (Parses bits) text read → read ≡ Some (number_of text)
 ReadsOne-number_of bits (Signed (pos low) (pos high)) below text passed read reads =

@@ -1,13 +1,13 @@
--- From what the steps of `run_command` promise to its clause `serves`, and to the clauses of `report_fault`,
--- `show_error` and `show_refusal`. The lemmas say what each written text is: the line that reports an error, `clap`'s
--- message, or the output of a run with a tally. They go through the cases of the definitions.
+-- Lemmas for the clause `serves` of `run_command`, and for the clauses of `report_fault`, `show_error` and
+-- `show_refusal`. They derive these clauses from what the called functions promise, in each case of the definitions:
+-- the command wrote the line that reports an error, it wrote `clap`'s message, or a run ended with a tally.
 use Rattle.std.proofs.Common.{◌≡◌, ◌≢◌, ◌⊎◌, ℕ, List, [], length, Bool, false, Result, Ok, Err, ap, refl, inl, inr}
 use Rattle.clap.specs.Words.{Text}
 use Rattle.clap.specs.declared.error.kind.ErrorKind.{ErrorKind}
 use Rattle.clap.specs.declared.error.kind.ErrorKind.TheVariants as kind
 use Rattle.clap.specs.declared.error.Error.{Error}
-use Rattle.mkpasswd.specs.Commands.{IsAsked, Serves, Tells, wants_generator}
-use Rattle.mkpasswd.specs.Faults.{IsTold, fault_line, fault_row, parse_status}
+use Rattle.mkpasswd.specs.Commands.{IsAsked, ReportsFault, Serves, wants_generator}
+use Rattle.mkpasswd.specs.Faults.{IsReported, fault_line, fault_row, parse_status}
 use Rattle.mkpasswd.specs.Private.Commands.{ErrorShown, RefusalShown, RunsOrLacks, front, help, mistake, no_text}
 use Rattle.run_core.specs.Devices.{Device}
 use Rattle.mkpasswd.specs.Options.{Plans}
@@ -26,10 +26,11 @@ use Rattle.run_core.specs.declared.tally.Tally.{Tally}
 -- ---- A text that was written
 
 module _ {T : Type 0} where
-  -- `IsTold` holds if the line that reports the error was shown, in at most as many calls as it has bytes.
-  pub IsTold_from_Shows : {A : Type 0} (fault : Fault) (old new : Device T) (line : List ℕ) (turns : ℕ) (result : Result A RunFault)
-      → line ≡ fault_line fault → turns ≡ length line → Shows turns old new line result → IsTold fault old new
-  IsTold_from_Shows {A} fault old new line turns result line_is turns_is shows =
+  -- If `Shows` holds for the line that reports an error, and for as many calls as the line has bytes, then `IsReported`
+  -- holds.
+  pub IsReported_from_Shows : {A : Type 0} (fault : Fault) (old new : Device T) (line : List ℕ) (turns : ℕ) (result : Result A RunFault)
+      → line ≡ fault_line fault → turns ≡ length line → Shows turns old new line result → IsReported fault old new
+  IsReported_from_Shows {A} fault old new line turns result line_is turns_is shows =
       let tallied : Shows turns old new line (as_tally result) = Shows-as_tally turns old new line result shows in
       let shown : Shows (length line) old new line (as_tally result) = rw turns_is at tallied in
       (as_tally result, rw line_is at shown)
@@ -59,52 +60,55 @@ parse_status-mistake which other = elim (parse_status-cases which) [
 ]
 
 module _ {O E : Type 0} where
-  -- A refusal of the arguments that is not an error of `clap` was reported with its own line and status.
-  pub RefusalShown-told : (fault : UsageFault) (turns : ℕ) (out : Device O) (faults : Device E) (new_faults : Device E) (status : ℕ)
-      → ((error : Error) → fault ≢ Parse error) → IsTold (Usage fault) faults new_faults → status ≡ (fault_row (Usage fault)).0
+  -- If an error that is not `clap`'s was reported with its line and its status, and nothing was written to `out`, then
+  -- `RefusalShown` holds.
+  pub RefusalShown-reported : (fault : UsageFault) (turns : ℕ) (out : Device O) (faults : Device E) (new_faults : Device E) (status : ℕ)
+      → ((error : Error) → fault ≢ Parse error) → IsReported (Usage fault) faults new_faults → status ≡ (fault_row (Usage fault)).0
       → RefusalShown fault turns out faults out new_faults status
-  RefusalShown-told (Parse error) turns out faults new_faults status other told status_is = absurd (other error refl)
-  RefusalShown-told fault turns out faults new_faults status other told status_is = (told, refl, status_is)
+  RefusalShown-reported (Parse error) turns out faults new_faults status other reported status_is = absurd (other error refl)
+  RefusalShown-reported fault turns out faults new_faults status other reported status_is = (reported, refl, status_is)
 
 -- ---- The command
 
 module _ {I O E : Type 0} where
-  -- The state of the run with other outputs.
+  -- with_faults old faults: the state `old` with `faults` in place of its own.
   abbrev pub with_faults : RunState I O E → Device E → RunState I O E
   with_faults old faults = record old { faults = faults }
 
+  -- with_outs old out faults: the state `old` with these two outputs in place of its own.
   abbrev pub with_outs : RunState I O E → Device O → Device E → RunState I O E
   with_outs old out faults = record old { out = out; faults = faults }
 
   -- If a run ended with a tally, the clause `serves` holds with the status of the tally.
-  pub Serves-run : (turns : ℕ) (Made IsKept : Type 0) (generates : Bool) (arguments : List Text) (plan : Plan) (old new : RunState I O E) (tally : Tally) (status : ℕ)
-      → Plans arguments (Ok plan) → IsAsked Made IsKept (wants_generator plan) → RunsOrLacks turns generates plan old new (Ok tally) → status ≡ tally_status tally
-      → Serves turns Made IsKept generates arguments old new status
-  Serves-run turns Made IsKept generates arguments plan old new tally status planned asks runs status_is =
+  pub Serves-run : (turns : ℕ) (Made IsNotCalled : Type 0) (generates : Bool) (arguments : List Text) (plan : Plan) (old new : RunState I O E) (tally : Tally) (status : ℕ)
+      → Plans arguments (Ok plan) → IsAsked Made IsNotCalled (wants_generator plan) → RunsOrLacks turns generates plan old new (Ok tally) → status ≡ tally_status tally
+      → Serves turns Made IsNotCalled generates arguments old new status
+  Serves-run turns Made IsNotCalled generates arguments plan old new tally status planned asks runs status_is =
       (Ok plan, planned, asks, rw runs.0 (new, Ok tally, runs.1, (refl, status_is)))
 
-  -- Writing the line that reports an error changes only `faults`.
-  Tells_from_IsTold : (fault : Fault) (old : RunState I O E) (faults : Device E) (status : ℕ) → IsTold fault old.faults faults → status ≡ (fault_row fault).0
-      → Tells fault old (with_faults old faults) status
-  Tells_from_IsTold fault old faults status (result, shows) status_is = (result, shows, refl, status_is)
+  -- If `IsReported` holds, nothing but `faults` has changed, and the status is that of the error, then `ReportsFault`
+  -- holds.
+  ReportsFault_from_IsReported : (fault : Fault) (old : RunState I O E) (faults : Device E) (status : ℕ) → IsReported fault old.faults faults → status ≡ (fault_row fault).0
+      → ReportsFault fault old (with_faults old faults) status
+  ReportsFault_from_IsReported fault old faults status (result, shows) status_is = (result, shows, refl, status_is)
 
   -- If a run ended with an error, or lacked a generator, and the error was reported, the clause `serves` holds.
-  pub Serves-run_fault : (turns : ℕ) (Made IsKept : Type 0) (generates : Bool) (arguments : List Text) (plan : Plan) (old mid : RunState I O E) (faults : Device E) (fault : Fault) (status : ℕ)
-      → Plans arguments (Ok plan) → IsAsked Made IsKept (wants_generator plan) → RunsOrLacks turns generates plan old mid (Err fault) → IsTold fault mid.faults faults
-      → status ≡ (fault_row fault).0 → Serves turns Made IsKept generates arguments old (with_faults mid faults) status
-  Serves-run_fault turns Made IsKept generates arguments plan old mid faults Start status planned asks runs is_told status_is =
-      (Ok plan, planned, asks, rw (runs.0, ← runs.1) (Tells_from_IsTold Start mid faults status is_told status_is))
-  Serves-run_fault turns Made IsKept generates arguments plan old mid faults (Run fault) status planned asks runs is_told status_is =
-      (Ok plan, planned, asks, rw runs.0 (mid, Err fault, runs.1, Tells_from_IsTold (Run fault) mid faults status is_told status_is))
-  Serves-run_fault turns Made IsKept generates arguments plan old mid faults (Usage fault) status planned asks runs is_told status_is = absurd runs
+  pub Serves-run_fault : (turns : ℕ) (Made IsNotCalled : Type 0) (generates : Bool) (arguments : List Text) (plan : Plan) (old mid : RunState I O E) (faults : Device E) (fault : Fault) (status : ℕ)
+      → Plans arguments (Ok plan) → IsAsked Made IsNotCalled (wants_generator plan) → RunsOrLacks turns generates plan old mid (Err fault) → IsReported fault mid.faults faults
+      → status ≡ (fault_row fault).0 → Serves turns Made IsNotCalled generates arguments old (with_faults mid faults) status
+  Serves-run_fault turns Made IsNotCalled generates arguments plan old mid faults Start status planned asks runs is_reported status_is =
+      (Ok plan, planned, asks, rw (runs.0, ← runs.1) (ReportsFault_from_IsReported Start mid faults status is_reported status_is))
+  Serves-run_fault turns Made IsNotCalled generates arguments plan old mid faults (Run fault) status planned asks runs is_reported status_is =
+      (Ok plan, planned, asks, rw runs.0 (mid, Err fault, runs.1, ReportsFault_from_IsReported (Run fault) mid faults status is_reported status_is))
+  Serves-run_fault turns Made IsNotCalled generates arguments plan old mid faults (Usage fault) status planned asks runs is_reported status_is = absurd runs
 
-  -- If an error of `clap`, help or the version was shown, the clause `serves` holds.
-  pub Serves-clap_error : (turns : ℕ) (Made IsKept : Type 0) (generates : Bool) (arguments : List Text) (error : Error) (old : RunState I O E) (out : Device O) (faults : Device E) (status : ℕ)
-      → Plans arguments (Err (Parse error)) → IsAsked Made IsKept false → ErrorShown error turns old.out old.faults out faults status
-      → Serves turns Made IsKept generates arguments old (with_outs old out faults) status
-  Serves-clap_error turns Made IsKept generates arguments error old out faults status planned asks (mistake text result by shows same status_is) =
+  -- If `ErrorShown` holds for an error of `clap`, which may be help or the version, the clause `serves` holds.
+  pub Serves-clap_error : (turns : ℕ) (Made IsNotCalled : Type 0) (generates : Bool) (arguments : List Text) (error : Error) (old : RunState I O E) (out : Device O) (faults : Device E) (status : ℕ)
+      → Plans arguments (Err (Parse error)) → IsAsked Made IsNotCalled false → ErrorShown error turns old.out old.faults out faults status
+      → Serves turns Made IsNotCalled generates arguments old (with_outs old out faults) status
+  Serves-clap_error turns Made IsNotCalled generates arguments error old out faults status planned asks (mistake text result by shows same status_is) =
       (Err (Parse error), planned, asks, rw by (text, result, shows, ap (λ (o : Device O). with_outs old o faults) same, status_is))
-  Serves-clap_error turns Made IsKept generates arguments error old out faults status planned asks (help text by shows same status_is) = (
+  Serves-clap_error turns Made IsNotCalled generates arguments error old out faults status planned asks (help text by shows same status_is) = (
     Err (Parse error),
     planned,
     asks,
@@ -116,7 +120,7 @@ module _ {I O E : Type 0} where
       (ap (λ (f : Device E). with_outs old out f) same, status_is),
     ),
   )
-  Serves-clap_error turns Made IsKept generates arguments error old out faults status planned asks (front text fault by shows told status_is) = (
+  Serves-clap_error turns Made IsNotCalled generates arguments error old out faults status planned asks (front text fault by shows reported status_is) = (
     Err (Parse error),
     planned,
     asks,
@@ -125,17 +129,17 @@ module _ {I O E : Type 0} where
       with_outs old out old.faults,
       Err fault,
       (shows, refl, tt),
-      Tells_from_IsTold (Run fault) (with_outs old out old.faults) faults status told status_is,
+      ReportsFault_from_IsReported (Run fault) (with_outs old out old.faults) faults status reported status_is,
     ),
   )
-  Serves-clap_error turns Made IsKept generates arguments error old out faults status planned asks (no_text told same status_is) =
-      (Err NoMemory, tt, asks, rw same (Tells_from_IsTold (Usage NoMemory) old faults status told status_is))
+  Serves-clap_error turns Made IsNotCalled generates arguments error old out faults status planned asks (no_text reported same status_is) =
+      (Err NoMemory, tt, asks, rw same (ReportsFault_from_IsReported (Usage NoMemory) old faults status reported status_is))
 
-  -- If a refusal of the arguments was shown, the clause `serves` holds.
-  pub Serves-refusal : (turns : ℕ) (Made IsKept : Type 0) (generates : Bool) (arguments : List Text) (fault : UsageFault) (old : RunState I O E) (out : Device O) (faults : Device E) (status : ℕ)
-      → Plans arguments (Err fault) → IsAsked Made IsKept false → RefusalShown fault turns old.out old.faults out faults status
-      → Serves turns Made IsKept generates arguments old (with_outs old out faults) status
-  Serves-refusal turns Made IsKept generates arguments (Parse error) old out faults status planned asks shown =
-      Serves-clap_error turns Made IsKept generates arguments error old out faults status planned asks shown
-  Serves-refusal turns Made IsKept generates arguments fault old out faults status planned asks (told, same, status_is) =
-      (Err fault, planned, asks, rw same (Tells_from_IsTold (Usage fault) old faults status told status_is))
+  -- If `RefusalShown` holds for the arguments' error, the clause `serves` holds.
+  pub Serves-refusal : (turns : ℕ) (Made IsNotCalled : Type 0) (generates : Bool) (arguments : List Text) (fault : UsageFault) (old : RunState I O E) (out : Device O) (faults : Device E) (status : ℕ)
+      → Plans arguments (Err fault) → IsAsked Made IsNotCalled false → RefusalShown fault turns old.out old.faults out faults status
+      → Serves turns Made IsNotCalled generates arguments old (with_outs old out faults) status
+  Serves-refusal turns Made IsNotCalled generates arguments (Parse error) old out faults status planned asks shown =
+      Serves-clap_error turns Made IsNotCalled generates arguments error old out faults status planned asks shown
+  Serves-refusal turns Made IsNotCalled generates arguments fault old out faults status planned asks (reported, same, status_is) =
+      (Err fault, planned, asks, rw same (ReportsFault_from_IsReported (Usage fault) old faults status reported status_is))

@@ -8,7 +8,7 @@ use Rattle.std.specs.Io.KnownBytes.{Consumes}
 use Rattle.clap.specs.Words.{Text, kind_of}
 use Rattle.clap.specs.declared.error.Error.{Error}
 use Rattle.run_core.specs.Answers.{Answer, tally_status}
-use Rattle.mkpasswd.specs.Commands.{Concludes, Ends, IsAsked, Serves, ShowsError, Tells, wants_generator}
+use Rattle.mkpasswd.specs.Commands.{Concludes, Ends, IsAsked, ReportsFault, Serves, ShowsError, wants_generator}
 use Rattle.mkpasswd.specs.Corollaries.{IsDone, EndsWhole, Succeeds, SucceedsByLines}
 use Rattle.mkpasswd.specs.declared.fault.Fault.TheVariants.{Start}
 use Rattle.run_core.specs.Devices.{Device}
@@ -46,8 +46,8 @@ Reads-nothing input = record { shown = Consumes-nothing input.shown; counted = o
 module _ {I O E : Type 0} where
   -- ---- A plan whose run has a tally of status 0
 
-  -- If the tally of a run has status 0, the run succeeded: it wrote all its answers, and none of them is a refusal or a
-  -- no.
+  -- If the tally of a run has status 0, the run succeeded: it wrote all its answers, no line was refused or got the
+  -- verdict `no`, and no audited account needs care.
   Succeeds_from_Finishes : (answers : List Answer) (read : List ℕ) (old new : RunState I O E) (tally : Tally) → tally_status tally ≡ 0
       → Reads old.input new.input read → Finishes answers old new (Ok tally)
       → Succeeds read answers old new
@@ -89,36 +89,36 @@ module _ {I O E : Type 0} where
   IsDone_from_Ends turns (Audit job) old new tally well runs = SucceedsByLines_from_EndsLines turns kinds.Audit job old new tally well runs.ends
 
   -- If the arguments make a plan and the status is 0, all of the plan was done.
-  EndsWhole-plan : (lacks : Bool) (turns : ℕ) (Made IsKept : Type 0) (plan : Plan) (arguments : List Text) (old new : RunState I O E) (status : ℕ) → status ≡ 0 → Plans arguments (Ok plan)
-      → IsAsked Made IsKept (wants_generator plan)
-      → MatchBool lacks (Tells Start old new status)
+  EndsWhole-plan : (lacks : Bool) (turns : ℕ) (Made IsNotCalled : Type 0) (plan : Plan) (arguments : List Text) (old new : RunState I O E) (status : ℕ) → status ≡ 0 → Plans arguments (Ok plan)
+      → IsAsked Made IsNotCalled (wants_generator plan)
+      → MatchBool lacks (ReportsFault Start old new status)
       ((mid : RunState I O E) × (result : Result Tally RunFault) × Ends turns plan old mid result × Concludes result mid new status)
-      → EndsWhole Made IsKept arguments old new
-  EndsWhole-plan true turns Made IsKept plan arguments old new status well planned asks (result, shows, same, is) = absurd (omega (arith, is, well))
-  EndsWhole-plan false turns Made IsKept plan arguments old new status well planned asks (mid, Ok tally, ends, (same, is)) =
+      → EndsWhole Made IsNotCalled arguments old new
+  EndsWhole-plan true turns Made IsNotCalled plan arguments old new status well planned asks (result, shows, same, is) = absurd (omega (arith, is, well))
+  EndsWhole-plan false turns Made IsNotCalled plan arguments old new status well planned asks (mid, Ok tally, ends, (same, is)) =
       rw same (inl (plan, planned, asks, IsDone_from_Ends turns plan old mid tally (sym is ∙ well) ends))
-  EndsWhole-plan false turns Made IsKept plan arguments old new status well planned asks (mid, Err fault, ends, (result, shows, same, is)) =
+  EndsWhole-plan false turns Made IsNotCalled plan arguments old new status well planned asks (mid, Err fault, ends, (result, shows, same, is)) =
       absurd (run_row-nonzero fault (sym is ∙ well))
 
   -- ---- Arguments that are refused
 
   -- If `clap` returns an error and the status is 0, help or the version was printed in full.
-  EndsWhole-clap_error : (kept : ℕ) (turns : ℕ) (Made IsKept : Type 0) (arguments : List Text) (error : Error) (old new : RunState I O E) (status : ℕ) → status ≡ 0
-      → Plans arguments (Err (Parse error)) → IsAsked Made IsKept false → parse_status (kind_of error) ≡ kept
-      → ShowsError kept turns old new status → EndsWhole Made IsKept arguments old new
-  EndsWhole-clap_error zero turns Made IsKept arguments error old new status well planned asks by (text, mid, Ok tally, (shows, rest, none), (same, is)) =
+  EndsWhole-clap_error : (kept : ℕ) (turns : ℕ) (Made IsNotCalled : Type 0) (arguments : List Text) (error : Error) (old new : RunState I O E) (status : ℕ) → status ≡ 0
+      → Plans arguments (Err (Parse error)) → IsAsked Made IsNotCalled false → parse_status (kind_of error) ≡ kept
+      → ShowsError kept turns old new status → EndsWhole Made IsNotCalled arguments old new
+  EndsWhole-clap_error zero turns Made IsNotCalled arguments error old new status well planned asks by (text, mid, Ok tally, (shows, rest, none), (same, is)) =
       inr (asks, (error, planned, by, text, rw same (record { others = rest; gives = shows.0 })))
-  EndsWhole-clap_error zero turns Made IsKept arguments error old new status well planned asks by (text, mid, Err fault, prints, (result, shows, same, is)) =
+  EndsWhole-clap_error zero turns Made IsNotCalled arguments error old new status well planned asks by (text, mid, Err fault, prints, (result, shows, same, is)) =
       absurd (run_row-nonzero fault (sym is ∙ well))
-  EndsWhole-clap_error (suc n) turns Made IsKept arguments error old new status well planned asks by (text, result, shows, same, is) =
+  EndsWhole-clap_error (suc n) turns Made IsNotCalled arguments error old new status well planned asks by (text, result, shows, same, is) =
       absurd (omega (arith, is, well))
 
   -- If a command that `Serves` describes has status 0, it did all that its arguments ask for, or printed help or the
   -- version.
-  pub EndsWhole_from_Serves : (turns : ℕ) (Made IsKept : Type 0) (generates : Bool) (arguments : List Text) (old new : RunState I O E) (status : ℕ) → status ≡ 0
-      → Serves turns Made IsKept generates arguments old new status → EndsWhole Made IsKept arguments old new
-  EndsWhole_from_Serves turns Made IsKept generates arguments old new status well (Ok plan, planned, asks, follows) =
-      EndsWhole-plan (wants_generator plan && not generates) turns Made IsKept plan arguments old new status well planned asks follows
-  EndsWhole_from_Serves turns Made IsKept generates arguments old new status well (Err (Parse error), planned, asks, follows) =
-      EndsWhole-clap_error (parse_status (kind_of error)) turns Made IsKept arguments error old new status well planned asks refl follows
-  EndsWhole_from_Serves turns Made IsKept generates arguments old new status well (Err fault, planned, asks, (result, shows, same, is)) = absurd (omega (arith, is, well))
+  pub EndsWhole_from_Serves : (turns : ℕ) (Made IsNotCalled : Type 0) (generates : Bool) (arguments : List Text) (old new : RunState I O E) (status : ℕ) → status ≡ 0
+      → Serves turns Made IsNotCalled generates arguments old new status → EndsWhole Made IsNotCalled arguments old new
+  EndsWhole_from_Serves turns Made IsNotCalled generates arguments old new status well (Ok plan, planned, asks, follows) =
+      EndsWhole-plan (wants_generator plan && not generates) turns Made IsNotCalled plan arguments old new status well planned asks follows
+  EndsWhole_from_Serves turns Made IsNotCalled generates arguments old new status well (Err (Parse error), planned, asks, follows) =
+      EndsWhole-clap_error (parse_status (kind_of error)) turns Made IsNotCalled arguments error old new status well planned asks refl follows
+  EndsWhole_from_Serves turns Made IsNotCalled generates arguments old new status well (Err fault, planned, asks, (result, shows, same, is)) = absurd (omega (arith, is, well))

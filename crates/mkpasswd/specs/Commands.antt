@@ -34,10 +34,10 @@ abbrev pub wants_by : Result Plan UsageFault → Bool
 wants_by (Ok plan) = wants_generator plan
 wants_by (Err fault) = false
 
--- IsAsked Made IsKept wants: if `wants` is true, the command asks for a generator once, and `Made` says what it gets.
--- Otherwise the command does not ask, and `IsKept` says so.
+-- IsAsked Made IsNotCalled wants: if `wants` is true, the command asks for a generator once, and `Made` says what it
+-- gets. Otherwise the command does not ask, and `IsNotCalled` says so.
 abbrev pub IsAsked : Type 0 → Type 0 → Bool → Type 0
-IsAsked Made IsKept wants = MatchBool wants Made IsKept
+IsAsked Made IsNotCalled wants = MatchBool wants Made IsNotCalled
 
 -- stream_in stream generator: the random numbers that the generator will give, or no numbers if there is no generator.
 abbrev pub stream_in : {R : Type 0} → (R → Stream) → Option R → Stream
@@ -50,11 +50,11 @@ module _ {I O E : Type 0} where
   Prints turns text old new result =
       Shows turns old.out new.out text result × (new ≡ record old { out = new.out }) × IfOk result (λ tally. tally ≡ tally_of [])
 
-  -- Tells fault old new status: the command writes `mkpasswd: MESSAGE` and a line feed to `faults`, in at most as many
-  -- calls as this line has bytes, and flushes it. If that fails, a prefix of the line may be written. Only `faults`
-  -- changes, and the status is that of the error.
-  abbrev pub Tells : Fault → RunState I O E → RunState I O E → ℕ → Type 0
-  Tells fault old new status =
+  -- ReportsFault fault old new status: the command writes `mkpasswd: MESSAGE` and a line feed to `faults`, in at most
+  -- as many calls as this line has bytes, and flushes it. If that fails, a prefix of the line may have been written.
+  -- Only `faults` changes, and the status is that of the error.
+  abbrev pub ReportsFault : Fault → RunState I O E → RunState I O E → ℕ → Type 0
+  ReportsFault fault old new status =
       let line = as_line (codes "mkpasswd: " ++ (fault_row fault).1) in
       (result : Result Tally RunFault) × Shows (length line) old.faults new.faults line result
       × (new ≡ record old { faults = new.faults }) × (status ≡ (fault_row fault).0)
@@ -64,7 +64,7 @@ module _ {I O E : Type 0} where
   -- reports it.
   abbrev pub Concludes : Result Tally RunFault → RunState I O E → RunState I O E → ℕ → Type 0
   Concludes (Ok tally) old new status = (new ≡ old) × (status ≡ tally_status tally)
-  Concludes (Err fault) old new status = Tells (Run fault) old new status
+  Concludes (Err fault) old new status = ReportsFault (Run fault) old new status
 
   -- Ends turns plan old new result: the run of the plan ends with this result, in at most `turns` I/O calls. It lists
   -- the methods, hashes one password, or hashes, checks or audits lines.
@@ -92,16 +92,16 @@ module _ {I O E : Type 0} where
   -- arguments are refused, it reports the refusal.
   abbrev pub Follows : ℕ → Bool → Result Plan UsageFault → RunState I O E → RunState I O E → ℕ → Type 0
   Follows turns generates (Ok plan) old new status =
-      MatchBool (wants_generator plan && not generates) (Tells Start old new status)
+      MatchBool (wants_generator plan && not generates) (ReportsFault Start old new status)
       ((mid : RunState I O E) × (result : Result Tally RunFault) × Ends turns plan old mid result × Concludes result mid new status)
   Follows turns generates (Err (Parse error)) old new status = ShowsError (parse_status (kind_of error)) turns old new status
-  Follows turns generates (Err fault) old new status = Tells (Usage fault) old new status
+  Follows turns generates (Err fault) old new status = ReportsFault (Usage fault) old new status
 
-  -- Serves turns Made IsKept generates arguments old new status: the command makes a plan from the arguments, asks for
-  -- a generator if the plan needs one, and runs the plan or reports why there is none. `Plans` allows that an
-  -- allocation fails for any arguments. `Made` says that the command called `make` once, `IsKept` that it did not, and
-  -- `generates` that there is a generator.
+  -- Serves turns Made IsNotCalled generates arguments old new status: the command makes a plan from the arguments, asks
+  -- for a generator if the plan needs one, and runs the plan or reports why there is none. `Plans` allows that an
+  -- allocation fails for any arguments. `Made` says that the command called `make` once, `IsNotCalled` that it did not,
+  -- and `generates` that there is a generator.
   abbrev pub Serves : ℕ → Type 0 → Type 0 → Bool → List Text → RunState I O E → RunState I O E → ℕ → Type 0
-  Serves turns Made IsKept generates arguments old new status =
-      (planned : Result Plan UsageFault) × Plans arguments planned × IsAsked Made IsKept (wants_by planned)
+  Serves turns Made IsNotCalled generates arguments old new status =
+      (planned : Result Plan UsageFault) × Plans arguments planned × IsAsked Made IsNotCalled (wants_by planned)
       × Follows turns generates planned old new status

@@ -36,8 +36,8 @@ module _ {I O E : Type 0} where
     pub others : new ≡ record old { out = new.out }
     pub gives : Takes 0 1 old.out new.out text
 
-  -- Succeeds read answers old new: a run read these bytes and wrote these answers. No answer is a refusal, the answer
-  -- `no` or an account that needs care, so the status is 0.
+  -- Succeeds read answers old new: a run read these bytes and wrote these answers. No line was refused or got the
+  -- verdict `no`, and no audited account needs care, so the status is 0.
   pub record Succeeds (read : List ℕ) (answers : List Answer) (old new : RunState I O E) : Type 0 where
     pub input : Reads old.input new.input read
     pub run : Finishes answers old new (Ok (tally_of answers))
@@ -70,12 +70,13 @@ module _ {I O E : Type 0} where
       (error : Error) × Plans arguments (Err (Parse error)) × (parse_status (kind_of error) ≡ 0)
       × (text : List ℕ) × GivesOnly text old new
 
-  -- EndsWhole Made IsKept arguments old new: the arguments make a plan, and all of it was done; or they ask for help or
-  -- the version, which was printed. `Made` says that the command asked for a generator, and `IsKept` that it did not.
+  -- EndsWhole Made IsNotCalled arguments old new: the arguments make a plan, and all of it was done; or they ask for
+  -- help or the version, which was printed. `Made` says that the command asked for a generator, and `IsNotCalled` that
+  -- it did not.
   abbrev pub EndsWhole : Type 0 → Type 0 → List Text → RunState I O E → RunState I O E → Type 0
-  EndsWhole Made IsKept arguments old new =
-      ((plan : Plan) × Plans arguments (Ok plan) × IsAsked Made IsKept (wants_generator plan) × IsDone plan old new)
-      ⊎ (IsAsked Made IsKept false × IsHelped arguments old new)
+  EndsWhole Made IsNotCalled arguments old new =
+      ((plan : Plan) × Plans arguments (Ok plan) × IsAsked Made IsNotCalled (wants_generator plan) × IsDone plan old new)
+      ⊎ (IsAsked Made IsNotCalled false × IsHelped arguments old new)
 
 -- ---- One hash
 

@@ -14,15 +14,15 @@ use Rattle.mkpasswd.specs.declared.fault.Fault.{Fault}
 use Rattle.mkpasswd.specs.declared.fault.Fault.TheVariants.{Start, Usage, Run}
 use Rattle.mkpasswd.specs.declared.fault.UsageFault.TheVariants.{Parse, Method, TwoSalts, TwoModes, Make, OutOfMemory}
 
--- parse_status kind: the exit status of `clap`'s error: 0 if the arguments ask for help or the version, otherwise 2.
+-- parse_status kind: the exit status of an error of `clap` with this kind. It is 0 if the arguments ask for help or the
+-- version, and otherwise 2.
 abbrev pub parse_status : ErrorKind → ℕ
 parse_status DisplayHelp = 0
 parse_status DisplayVersion = 0
 parse_status _ = 2
 
--- fault_row fault: the exit status and the message of an error. The status is 0 if the arguments ask for help or the
--- version, 2 if the arguments or the password are invalid, and 3 after a system error, a failed allocation or too many
--- I/O calls. The message of `Parse` is empty, because `clap` has its own.
+-- fault_row fault: the exit status and the message of an error. The message of `Parse` is empty, because `clap` has its
+-- own.
 abbrev pub fault_row : Fault → ℕ × List ℕ
 fault_row Start = (3, codes "start fault")
 fault_row (Usage (Parse error)) = (parse_status (kind_of error), [])
@@ -37,8 +37,8 @@ fault_row (Run fault) = run_row fault
 abbrev pub fault_line : Fault → List ℕ
 fault_line fault = as_line (codes "mkpasswd: " ++ (fault_row fault).1)
 
--- IsTold fault old new: the command wrote the line that reports the error, in at most as many calls as this line has
--- bytes, and flushed it. If that failed, a prefix of the line may be written.
-abbrev pub IsTold : {E : Type 0} → Fault → Device E → Device E → Type 0
-IsTold fault old new =
+-- IsReported fault old new: the command wrote the line that reports the error, in at most as many calls as this line
+-- has bytes, and flushed it. If that failed, a prefix of the line may have been written.
+abbrev pub IsReported : {E : Type 0} → Fault → Device E → Device E → Type 0
+IsReported fault old new =
     (result : Result Tally RunFault) × Shows (length (fault_line fault)) old new (fault_line fault) result

@@ -4,7 +4,7 @@ ghost use Rattle.crypt_core.specs.Methods.{method_named};
 ghost use Rattle.crypt_core.specs.declared.method.Method.{Method};
 ghost use Rattle.mkpasswd.specs.Commands.{IsAsked, Serves, stream_in, wants_generator};
 ghost use Rattle.mkpasswd.specs.Corollaries.{IsNoOption, EndsWhole, PrintsHash, hash_arguments};
-ghost use Rattle.mkpasswd.specs.Faults.{IsTold, fault_line, fault_row};
+ghost use Rattle.mkpasswd.specs.Faults.{IsReported, fault_line, fault_row};
 ghost use Rattle.mkpasswd.specs.Private.Commands.{ErrorShown, RefusalShown, RunsOrLacks};
 ghost use Rattle.run_core.specs.Devices.{HasRoomWithinRun, turns_limit};
 ghost use Rattle.run_core.specs.Runs.{IsReady, run_state};
@@ -30,7 +30,7 @@ const FAULT_LINE_ROOM: usize = 80;
 /// Runs the command with the arguments after the program's name, and returns the exit status.
 ///
 /// - 0: everything was done, or help or the version was printed.
-/// - 1: a line was refused or got the answer `no`, or an audited account needs care.
+/// - 1: a line was refused or got the verdict `no`, or an audited account needs care ([`Tally::status`]).
 /// - 2: the arguments or the password are invalid.
 /// - 3: a system error occurred, an allocation failed, or the run needs too many I/O calls.
 ///
@@ -158,7 +158,8 @@ fn show_refusal<O: Write, E: Write>(
     }
 }
 
-// Writes the message of `clap`'s error to the output that `clap` intends for it, and returns the exit status.
+// Writes the message of `clap`'s error to the output that `clap` intends for it, and returns the exit status. If a
+// message about wrong arguments cannot be written, only the status reports the error.
 fn show_error<O: Write, E: Write>(
     alloc: Global,
     error: &clap::Error,
@@ -192,7 +193,9 @@ fn text_of(alloc: Global, error: &clap::Error) -> Result<String, AllocError> {
     let text = format!(in alloc; "{error}")?;
     match text.as_str().split_once("\n  tip: to pass ") {
         Some((front, tip)) => {
+            // `clap` puts an empty line before the first tip, and none before the others.
             let front = front.strip_suffix("\n").unwrap_or(front);
+            // The last `Usage: ` is `clap`'s own, even if the user's argument, which the tip quotes, contains one.
             let usage = tip
                 .rsplit_once("\n\nUsage: ")
                 .map_or("", |(_, usage)| usage);
@@ -207,10 +210,11 @@ fn text_of(alloc: Global, error: &clap::Error) -> Result<String, AllocError> {
 /// The function makes at most as many writes as the line has bytes. If a call fails, only the status reports the error.
 /// For `Parse` MESSAGE is empty, because `clap` has the message.
 ///
-/// Precondition: the counts of `faults` are at most those that a run can leave.
+/// Precondition: each count of `faults` is at most 2^63, or 2^63 + 2^40 for its calls. Each run leaves its `faults`
+/// within these limits.
 pub fn report_fault<E: Write>(fault: &Fault, faults: &mut Output<E>) -> u8
     requires room { HasRoomWithinRun faults.old }
-    ensures told { IsTold fault.now faults.old faults.new }
+    ensures reported { IsReported fault.now faults.old faults.new }
     ensures status { result ≡ (fault_row fault.now).0 }
 {
     let line = fault_line(fault);

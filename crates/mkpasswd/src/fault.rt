@@ -25,7 +25,7 @@ pub enum UsageFault {
     TwoSalts,
     /// More than one of PASSWORD, `-s`, `--batch`, `--check` and `--audit` is given.
     TwoModes,
-    /// The method does not accept the cost or the given salt.
+    /// The method does not accept the rounds or the given salt.
     Make(MakeFault),
     /// An allocation failed.
     OutOfMemory,
@@ -112,8 +112,8 @@ impl Fault {
 
     /// Returns the exit status.
     ///
-    /// It is 0 for help and the version, 2 for invalid arguments or an invalid password, and 3 for a system error, a
-    /// failed allocation or too many I/O calls.
+    /// It is 3 for [`Fault::Start`], and otherwise that of the usage error ([`UsageFault::status`]) or of the run's
+    /// error ([`RunFault::status`]).
     pub fn status(&self) -> u8
         ensures { result ≡ (fault_row self.now).0 }
     {

@@ -247,6 +247,7 @@ fn command<'a>(alloc: Global) -> Result<Command<'a>, AllocError>
     let rehash = flag(alloc, "rehash", None, REHASH_HELP);
     let work = flag(alloc, "work", None, WORK_HELP);
     let budget = number(alloc, "budget", None, value_parser!(u64), BUDGET_HELP);
+    // `value_parser!(u32)` would accept 0, but lines are numbered from 1.
     let lines = ValueParser::signed(1, 4_294_967_295);
     let first_line = number(alloc, "first-line", None, lines, FIRST_LINE_HELP);
     let password = operand(alloc, "password", "PASSWORD", PASSWORD_HELP);

@@ -26,6 +26,7 @@ length-flat_map f size each [] = omega arith
 length-flat_map f size each (piece ∷ pieces) =
     omega (arith, length-append (f piece) (flat_map f pieces), each piece, length-flat_map f size each pieces)
 
+-- If `f` makes `size` items of each piece, piece i of the joined results is `f` of piece i.
 take_drop-flat_map : (f : List ℕ → List ℕ) (size : ℕ) → ((piece : List ℕ) → length (f piece) ≡ size) → (pieces : List (List ℕ))
     (i : ℕ) → i < length pieces → take size (drop (size * i) (flat_map f pieces)) ≡ f (get_or pieces i [])
 take_drop-flat_map f size each [] i inside = absurd (omega arith)
@@ -69,6 +70,7 @@ block_at-put_mid_same i width out x inside length_x =
     let block_size : 16 * i + 16 - 16 * i ≡ 16 = omega arith in
     rw block_size at (between-put_mid (16 * i) width out x (16 * i + 16) (omega arith) (omega arith))
 
+-- Writing one block leaves the others as they were.
 pub block_at-put_mid_other : (i width k : ℕ) (out x : List ℕ) → 16 * i + 16 ≤ length out → width ≡ 16 → length x ≡ 16
     → (k < i) ⊎ (i < k) → block_at k (put_mid (16 * i) width out x) ≡ block_at k out
 block_at-put_mid_other i width k out x inside width_is length_x (inl below) =

@@ -32,7 +32,7 @@ place_of-even_or_odd r i = elim (cases_lt (i % 2) 1) [
   | inr odd ↦ let is : i % 2 ≡ 1 = omega arith in inr (is, rw is (omega arith))
 ]
 
--- If results 0 to i - 1 are in their places, then after result i is written to its place, results 0 to i are.
+-- If results 0 to i - 1 are in their places, writing result i to its place leaves results 0 to i in their places.
 pub ArePlaced-put_mid : (r i width : ℕ) (y : ℕ → List ℕ) (out x : List ℕ) → length out ≡ 32 * r
     → i < 2 * r → width ≡ 16 → length x ≡ 16 → block_in_rows x ≡ y i → ArePlaced y r i out
     → ArePlaced y r (i + 1) (put_mid (16 * place_of r i) width out x)

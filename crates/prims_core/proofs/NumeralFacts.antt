@@ -99,6 +99,8 @@ not_All-with_outside front back digits c digits_are c_outside all =
 pub numerals-none_read : (rest digits : List ℕ) → rest ≡ digits → rest ++ numerals 0 0 ≡ digits
 numerals-none_read rest digits rest_is = rw numerals-zero (append-nil rest ∙ rest_is)
 
+-- After one more digit is read from the end, the digits that are left and the numerals of the new number are still all
+-- digits.
 pub numerals-digit_read : (rest fewer digits : List ℕ) (digit v n number : ℕ) → rest ≡ fewer ++ digit ∷ []
     → v < 64 → character_of v ≡ digit → rest ++ numerals n number ≡ digits
     → fewer ++ numerals (n + 1) (number * 64 + v) ≡ digits
@@ -112,6 +114,7 @@ pub length-all_read : (rest digits : List ℕ) (n number : ℕ) → length rest 
 length-all_read rest digits n number none so_far =
     omega (arith, simp (length-append, length-numerals) at (ap length so_far))
 
+-- Once no digit is left, the numerals of the number are all digits.
 pub numerals-all_read : (rest digits : List ℕ) (n number : ℕ) → length rest ≡ 0
     → rest ++ numerals n number ≡ digits → numerals n number ≡ digits
 numerals-all_read [] digits n number none so_far = so_far

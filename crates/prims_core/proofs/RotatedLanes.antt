@@ -29,8 +29,8 @@ slice_index-append_self xs four =
     λ k inside. get_or_append_left xs xs 0 k (omega arith) in
     (lane 0 (omega arith), lane 1 (omega arith), lane 2 (omega arith), lane 3 (omega arith))
 
--- XORing the two halves of x that a rotation by `bits` shifts up and down into a word, one after the other, is XORing
--- the rotated x into it.
+-- XORing a word with x shifted up by `bits`, modulo 2 ^ 32, and then with x shifted down by 32 - `bits` gives the same
+-- as XORing it with x rotated left by `bits`.
 xor_halves-rotate_left : (bits : ℕ) → 0 < bits → bits < 32 → (word x : ℕ) → x < 2 ^ 32
     → bit_xor (bit_xor word (x * 2 ^ bits % 2 ^ 32)) (x / 2 ^ (32 - bits)) ≡ bit_xor word (rotate_left w32 x bits)
 xor_halves-rotate_left bits some few word x fits =

@@ -34,6 +34,7 @@ pub row_number-lt : (n w : ℕ) (xs : List ℕ) (table : List (List ℕ)) (i : �
     → i < length table → i < n
 row_number-lt n w xs table i table_is inside = omega (arith, ap length table_is, length-rows_of n w xs)
 
+-- Each row of the table ends within the words of the table.
 pub row_ends_within : (n w : ℕ) (xs : List ℕ) (table : List (List ℕ)) (i : ℕ) → rows_of n w xs ≡ table
     → i < length table → i * w + w ≤ n * w
 row_ends_within n w xs table i table_is inside =
@@ -129,6 +130,7 @@ padded-append_zeros size len xs inside =
     )
     (ap (λ (k : ℕ). xs ++ replicate k zero) (omega (arith, inside)))
 
+-- Zeros after the words that were written do not change the rows, which are padded with zeros.
 pub rows_of-append_zeros : (n w end : ℕ) (xs ys : List ℕ) (table : List (List ℕ)) → rows_of n w (padded (n * w) xs) ≡ table
     → end ≤ n * w → ys ≡ xs ++ replicate (end - length xs) 0 → rows_of n w (padded (n * w) ys) ≡ table
 rows_of-append_zeros n w end xs ys table table_is inside ys_filled =
@@ -161,6 +163,7 @@ take_drop-padded_row n w xs table i table_is inside row_within =
     ∙ take-append-le w (drop (i * w) xs) zeros (omega (arith, row_within, length-drop (i * w) xs)) in
     sym read_row ∙ take_drop-row n w (padded (n * w) xs) table i table_is inside
 
+-- A row after the words that were written has only zeros.
 pub replicate-padded_row : (n w : ℕ) (xs : List ℕ) (table : List (List ℕ)) (i : ℕ) → rows_of n w (padded (n * w) xs) ≡ table
     → i < length table → length xs ≤ i * w → replicate w 0 ≡ get_or table i []
 replicate-padded_row n w xs table i table_is inside past_end =

@@ -1,4 +1,4 @@
-//! Digests whose work a meter counts. All digest functions have the trait [`Counted`].
+//! Digests whose work a meter counts: MD5, SHA-256 and SHA-512, which implement the trait [`Counted`].
 //!
 //! The caller feeds a message piece by piece and finishes the digest once. Feeding a piece adds its length
 //! to the meter's bytes, and finishing adds one to its digests.

@@ -7,6 +7,9 @@
 //!
 //! In memory a block's words are in one of two orders: in row order, as in the standard, or in diagonal order, which is
 //! the order of the four vectors.
+//!
+//! Each function is always inlined: a call would pass a block through memory, and inlined code can keep its vectors in
+//! registers from one step to the next.
 
 ghost use Rattle.std.specs.Prelude.{◌≡◌, length};
 ghost use Rattle.std.specs.Simd.Lanes.{zip2};
@@ -67,6 +70,7 @@ impl Diagonals {
     {
         let upper: u32x8 = self.first.shuffle(self.second, [0, 1, 2, 3, 4, 5, 6, 7]);
         let lower: u32x8 = self.third.shuffle(self.fourth, [0, 1, 2, 3, 4, 5, 6, 7]);
+        // Item k of the list is the place of word k in diagonal order. `upper` and `lower`, joined, are in this order.
         let block: u32x16 = upper.shuffle(
             lower,
             [0, 13, 10, 7, 4, 1, 14, 11, 8, 5, 2, 15, 12, 9, 6, 3],

@@ -9,6 +9,8 @@
 //! rearranges the blocks once before ROMix, and [`from_diagonals`] once after it. ROMix's first loop copies blocks to
 //! the table while it mixes them ([`fill_by_mixing`](crate::rows::fill_by_mixing)), since copying a whole row before
 //! mixing it makes the processor wait for memory.
+//!
+//! The steps for one block are always inlined, since a call would pass the block through memory.
 
 ghost use Rattle.std.specs.Prelude.{◌≡◌, ℕ, ◌+◌, ◌*◌, ◌%◌, ◌^◌, ◌<◌, ◌≤◌, List, ◌++◌, length};
 ghost use Rattle.prims_core.specs.BlockMix.{block_at, block_mix};

@@ -1,7 +1,8 @@
 //! The memory for the rows of scrypt's table (the V of RFC 7914, section 5), and the loop that fills it.
 //!
 //! The memory is a vector with enough capacity, or words that a caller lends. Blocks are appended to it, so the memory
-//! needs no initialization, which would take as long as wiping it.
+//! needs no initialization, which would take as long as wiping it. `push_block` is always inlined, since it runs in the
+//! loop of a mixing, once for each block.
 
 ghost use Rattle.std.specs.Prelude.{◌≡◌, ℕ, ◌+◌, ◌*◌, ◌%◌, ◌^◌, ◌<◌, ◌≤◌, List, [], ◌++◌, length, take, vec_capacity};
 ghost use Rattle.std.specs.Fn.{iterate};
@@ -51,8 +52,8 @@ impl Rows for Vec<u32> {
         self.clear();
     }
 
-    // The block is loaded as one vector, as the mixing loads it, so the processor loads it only once. The caller
-    // guarantees the capacity, so no test of it puts a branch into the mixing's loop.
+    // The block is loaded as one vector, as the mixing loads it, so the processor loads it only once. The precondition
+    // guarantees the capacity, so the words are pushed without a test, which would put a branch into the mixing's loop.
     #[inline(always)]
     fn push_block(&mut self, block: &[u32]) {
         'appending: for word in u32x16::from_slice(block).to_array() {
@@ -113,9 +114,9 @@ impl<'a> Rows for LentRows<'a> {
 }
 
 /// Replaces all rows by `count` new ones, as the first loop of scryptROMix does (RFC 7914, section 5, step 2): row `i`
-/// is `x` after `i` mixings. Afterwards `x` is mixed `count` times, and the meter has counted these mixings. In `x` and
-/// in the rows, blocks are in diagonal order. One mixing reads `x` and writes `y`, and the next one reads `y` and
-/// writes `x`; so what `y` holds before the call does not matter.
+/// is `x` after `i` mixings. Afterwards `x` has been mixed `count` times, and the meter has counted these mixings. In
+/// `x` and in the rows, blocks are in diagonal order. One mixing reads `x` and writes `y`, and the next one reads `y`
+/// and writes `x`; so what `y` holds before the call does not matter.
 ///
 /// Preconditions:
 ///

@@ -3,6 +3,7 @@
 //! The sixteen words of a block form a matrix of four rows. A column round is a quarter round of each column, and a row
 //! round is a quarter round of each row. Each quarter round starts on the main diagonal. The eight rounds alternate
 //! between column rounds and row rounds. The four quarter rounds of a round run at once, one in each lane of a vector.
+//! All steps are always inlined, since a call would pass the block through memory between one step and the next.
 
 ghost use Rattle.std.specs.Prelude.{◌≡◌, ℕ, ◌<◌, [], ◌∷◌, bit_xor, length, slice_index};
 ghost use Rattle.std.specs.Fn.{iterate};

@@ -13,7 +13,7 @@ use std::alloc::{AllocError, Global};
 use std::marker::Model;
 use std::mem::size_of;
 
-// The zeros that a row after the end of the vector reads as. A row of scrypt has 32r words, so they suffice for r up to
+// A row after the end of the vector reads as these zeros. A row of scrypt has 32r words, so they suffice for r up to
 // 32.
 const ZEROS: [u32; 1024] = [0; 1024];
 

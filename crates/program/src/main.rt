@@ -12,7 +12,7 @@ use std::env;
 use std::process::ExitCode;
 
 // The limit on the I/O calls of a run. It is the greatest limit that `run_command` accepts.
-const TURNS: u64 = 1 << 40;
+const IO_CALL_LIMIT: u64 = 1 << 40;
 
 fn main(rt: HostRuntime) -> ExitCode {
     let mut faults = Output::new(rt.stderr());
@@ -28,6 +28,7 @@ fn main(rt: HostRuntime) -> ExitCode {
     };
     let status = match arguments {
         Ok(arguments) => {
+            // `run_command` calls `make` only if it hashes or checks passwords, so `--help` works without a seed.
             let mut generator: Option<StdRng> = None;
             let mut make = || make_rng::<StdRng, HostRuntime>(&rt).ok();
             run_command(
@@ -39,7 +40,7 @@ fn main(rt: HostRuntime) -> ExitCode {
                 &mut generator,
                 &mut make,
                 &mut Meter::new(),
-                TURNS,
+                IO_CALL_LIMIT,
             )
         }
         Err(fault) => report_fault(&fault, &mut faults),

@@ -18,7 +18,7 @@ use Rattle.run_core.specs.declared.job.Job.{Job}
 use Rattle.run_core.specs.declared.line.Kind.TheVariants.{Audit}
 use Rattle.run_core.specs.declared.tally.Tally.{Tally}
 
--- ---- no answer takes a hash
+-- ---- no answer has a hash
 
 hashings-audit_answer : (job : Job) (number : ℕ) (line : List ℕ) (answer : Answer) → IsAuditAnswer job number line answer → answer.hashings ≡ []
 hashings-audit_answer job number line answer (inl (fault, refused, is)) = ap (λ (a : Answer). a.hashings) is
@@ -39,6 +39,7 @@ append-nil-parts : (front back : List Hashing) → front ++ back ≡ [] → (fro
 append-nil-parts [] back is = (refl, is)
 append-nil-parts (made ∷ front) back is = absurd cc
 
+-- If the answers have no hashes, the last one has none.
 hashings-last-nil : (done : List Answer) (next : Answer) → hashings_of (done ++ next ∷ []) ≡ [] → next.hashings ≡ []
 hashings-last-nil done next none =
     let parts = append-nil-parts (hashings_of done) (hashings_of (next ∷ [])) (sym (flat_map-append _ done (next ∷ [])) ∙ none) in
@@ -46,7 +47,7 @@ hashings-last-nil done next none =
 
 -- An empty list of hashes contains no hash for which scrypt could not allocate memory.
 not_IsRefusedAmong-nil : (before after : Work) (hashings : List Hashing) (stream : Stream) → hashings ≡ [] → IsRefusedAmong before hashings after stream → ⊥
-not_IsRefusedAmong-nil before after hashings stream none (made, next, others, are, growth, same) =
+not_IsRefusedAmong-nil before after hashings stream none (made, next, others, are, failed, same) =
     let cut = append-nil-parts made (next ∷ others) (sym are ∙ none) in
     absurd (let some = cut.1 in cc)
 
@@ -58,6 +59,7 @@ module _ {I O E : Type 0} where
     pub hashes_none : new.counts ≡ old.counts
     pub allocates_none : result ≢ Err OutOfMemory
 
+  -- A run that computed no hashes and did not end for a lack of memory hashes nothing.
   HashesNothing_from_IsAfter : (made : List Hashing) (old new : RunState I O E) (result : Result Tally RunFault) → made ≡ [] → IsAfter made old new → result ≢ Err OutOfMemory
       → HashesNothing old new result
   HashesNothing_from_IsAfter made old new result none after other = record {
@@ -66,8 +68,8 @@ module _ {I O E : Type 0} where
   }
 
   -- The cases are those of `EndsBy`, in order: all lines are answered; reading stopped, because a read failed or no I/O
-  -- call was left; an answer was cut short, because a write failed, no I/O call was left or memory was lacking; or a
-  -- password was refused, which a run over lines never does.
+  -- call was left; the run stopped at an answer, because a write failed, no I/O call was left or scrypt could not
+  -- allocate memory; or a password was refused, which a run over lines never does.
   pub HashesNothing_from_EndsLines : (turns : ℕ) (job : Job) (old new : RunState I O E) (result : Result Tally RunFault) → EndsLines turns Audit job old new result → HashesNothing old new result
   HashesNothing_from_EndsLines turns job old new (Ok tally) (bytes, reads, (answers, (at_end, are), (is, takes, after))) =
       HashesNothing_from_IsAfter _ old new (Ok tally) (hashings_of-audit_answers job job.first_line _ old.stream answers are) after (λ same. cc)

@@ -51,6 +51,7 @@ module _ {I : Type 0} where
     pub fetched : Fetches left mid new (drop filled next) (Ok count)
 
   -- After the `fetch` of `HasFetched`, the first `filled + count` bytes of the buffer are all bytes that were read.
+  -- They fit into the buffer, and are the `filled` bytes from before, without a line feed, and then `count` new bytes.
   Reads_from_HasFetched : (old mid new : Device I) (buffer next : List ℕ) (filled count turns left : ℕ)
       → HasFetched old mid new buffer next filled count turns left
       → (filled + count ≤ buffer_size)
@@ -152,6 +153,7 @@ module _ {I : Type 0} where
         moves = MovesBytes-trans 0 old mid new h.before.moves (h.fetched.4 some);
       }
 
+  -- While the buffer has room, the bytes that were read do not decide what the password is.
   IsUndecided_from_IsReading : (old mid : Device I) (buffer : List ℕ) (filled turns left : ℕ)
       → IsReading old mid buffer filled turns left → filled < buffer_size → IsUndecided (take filled buffer)
   IsUndecided_from_IsReading old mid buffer filled turns left before room =
@@ -186,7 +188,7 @@ module _ {I : Type 0} where
     ),
   )
 
-  -- Exit with a full buffer: the first line is too long for a password.
+  -- Exit with a full buffer: the first line is too long for a password, which is the third case of `IsDecided`.
   pub FindsLine-full_buffer : (old mid : Device I) (buffer : List ℕ) (filled turns left : ℕ)
       → IsReading old mid buffer filled turns left → buffer_size ≤ filled
       → (bytes : List ℕ) × Reads old mid bytes × FindsLine old mid bytes left buffer (Ok filled)

@@ -33,6 +33,7 @@ module _ {T : Type 0} where
         flushed = finished.flushed.flushed;
       }
 
+  -- If an output has taken bytes and then fails to flush, it has taken these bytes, with one failure and one flush.
   pub Takes-IsUnfinished : (old mid new : Device T) (bytes : List ℕ) → Takes 0 0 old mid bytes → IsUnfinished mid new → Takes 1 1 old new bytes
   Takes-IsUnfinished old mid new bytes takes unfinished =
       let failed = takes.failed in

@@ -50,6 +50,7 @@ not_IsCostly-greatest_cost job field kept line parts spells once within has is c
           within (IsAbove-le job.budget costly.number (greatest_cost kept) (omega (arith, number_is, ap (λ (s : SettingValue). cost s (length costly.parts.password)) one, most)) costly.above)
     ]
 
+-- A hash that an audit finds within its budget puts no line of a check without rehashes over this budget.
 pub foresees : (job : Job) → Foresees job
 foresees job field scheme most OverBudget finds other checking same line parts has is = absurd (other refl)
 foresees job field scheme most standing (kept, spells, is_scheme, is_number, stands) other checking same line parts has is =
@@ -62,6 +63,7 @@ cost-le-policy_limit new budget kept within default =
     let never : ¬ (policy_limit new < cost kept 0) = λ above. within (inr (default, above)) in
     omega (arith, never)
 
+-- If no budget is given, a login can check such a hash within the limit of the policy, at least for the empty password.
 pub heeds_limit : (job : Job) → HeedsLimit job
 heeds_limit job field scheme most OverBudget finds other default = absurd (other refl)
 heeds_limit job field scheme most standing (kept, spells, is_scheme, is_number, stands) other default =
@@ -87,7 +89,7 @@ ComesTo-not_whole job stream parts field kept Misfit made is spells dead comes =
 ComesTo-not_whole job stream parts field kept (Audited finding) made is spells dead comes = absurd comes
 
 -- If the field of a line spells a setting but is not whole, and the line breaks no rule and is not costly, then its
--- answer is the verdict `no`.
+-- answer is the verdict `no`. The other cases of `IsPasswordAnswer`, that the line is refused or costly, are excluded.
 outcome-not_whole : (job : Job) (field : List ℕ) (kept : SettingValue) (line : List ℕ) (parts : Parts) → Spells field kept → ¬ IsWhole field kept
     → HasParts Check line parts → parts.field ≡ Some field → IsSound Check line → ¬ IsCostly Check job line
     → (number : ℕ) (stream : Stream) (answer : Answer) → IsPasswordAnswer Check job number line stream answer → answer.outcome ≡ Ok Misfit
@@ -98,6 +100,7 @@ outcome-not_whole job field kept line parts spells dead has is sound cheap numbe
     let same = ap (λ (p : Parts). p.field) (parts_unique Check line cut parts found has) in
     ap (λ (a : Answer). a.outcome) answer_is ∙ ap Ok (ComesTo-not_whole job stream cut field kept outcome answer.hashings (same ∙ is) spells dead comes)
 
+-- Every line with a dead hash that breaks no rule and is not costly gets the verdict `no`.
 pub refutes : (job : Job) → Refutes job
 refutes job field scheme most (kept, spells, is_scheme, is_number, stands) checking line parts has is sound cheap =
     outcome-not_whole checking field kept line parts spells stands.1 has is sound cheap

@@ -34,8 +34,8 @@ with_line_feeds-behind bytes lines rest front line behind split is_line = rw (sp
     append_assoc (with_line_feeds lines) rest (front ++ line_feed ∷ behind)
     ∙ ap (λ others. with_line_feeds lines ++ others) (sym (append_assoc rest front (line_feed ∷ behind))))
 
--- If the bytes so far are some lines and `rest`, then with `front`, a line feed and `behind` added they are these
--- lines, one more line, which is `rest` and `front`, and `behind`.
+-- If the bytes so far are some lines and `rest`, then `front`, a line feed and `behind` after them complete one more
+-- line, `rest ++ front`, which is followed by `behind`.
 pub with_line_feeds-behind_line : (bytes : List ℕ) (lines : List (List ℕ)) (rest front line behind : List ℕ) → bytes ≡ with_line_feeds lines ++ rest → line ≡ rest ++ front
     → bytes ++ (front ++ line_feed ∷ behind) ≡ with_line_feeds (lines ++ line ∷ []) ++ behind
 with_line_feeds-behind_line bytes lines rest front line behind split is_line =
@@ -87,6 +87,7 @@ IsCutAtFeed_from_position xs at found =
 
 -- ---- the lines of an input
 
+-- Only the last part is dropped if it is empty, so a part before others stays.
 without_empty_end-cons : (part : List ℕ) (parts : List (List ℕ)) → 0 < length parts → without_empty_end (part ∷ parts) ≡ part ∷ without_empty_end parts
 without_empty_end-cons part [] some = absurd (omega (arith, some))
 without_empty_end-cons [] (next ∷ parts) some = refl

@@ -46,6 +46,7 @@ count_by-push : (seen : Answer → Bool) (answers : List Answer) (next : Answer)
     → count_by seen (answers ++ next ∷ []) ≡ count_by seen answers + as_count (seen next)
 count_by-push seen answers next = sum_by-append _ answers (next ∷ []) ∙ ap (λ (n : ℕ). count_by seen answers + n) (count_by-single seen next)
 
+-- Two tallies with the same counts are equal.
 Tally-eq : (a b c d e f : ℕ) → a ≡ d → b ≡ e → c ≡ f
     → ◌≡◌ {A = Tally} (record { lines = a; refused = b; misfits = c }) (record { lines = d; refused = e; misfits = f })
 Tally-eq a b c d e f one two three = cc

@@ -44,6 +44,9 @@ ComesTo-without_budget : (job : Job) (parts : Parts) (stream : Stream) (outcome 
 ComesTo-without_budget job parts stream (Hashed hash) made = ((λ comes. comes), λ comes. comes)
 ComesTo-without_budget job parts stream outcome made = ((λ comes. comes), λ comes. comes)
 
+-- In the patterns on `IsPasswordAnswer`, `inl ..` is a line that is refused because it breaks a rule, `inr (inl ..)`
+-- one that is costly, and `inr (inr ..)` one with an outcome.
+
 module _ (kind : Kind) (job : Job) (number : ℕ) (line : List ℕ) (stream : Stream) (answer : Answer) where
   -- If a line is not costly, an answer to it is also an answer without the budget.
   IsPasswordAnswer-drop_budget : ¬ IsCostly kind job line → IsPasswordAnswer kind job number line stream answer → IsPasswordAnswer kind (without_budget job) number line stream answer
@@ -65,6 +68,7 @@ module _ (kind : Kind) (job : Job) (number : ℕ) (line : List ℕ) (stream : St
   costly-refused costly (inr (inl (other, is))) = is
   costly-refused costly (inr (inr (sound, cheap, parts, cut, outcome, comes, is))) = absurd (cheap costly)
 
+-- A budget changes only the answers to costly lines.
 pub only_refuses : (kind : Kind) (job : Job) → kind ≢ Audit → OnlyRefuses kind job
 only_refuses Audit job unaudited = absurd (unaudited refl)
 only_refuses kind job unaudited = record {
@@ -190,6 +194,7 @@ module _ (kind : Kind) (job : Job) (line : List ℕ) (stream : Stream) where
     IsPasswordAnswer-add_rehash number answer (inr (inr (sound, cheap, parts, cut, outcome, comes, is))) =
         inr (inr (sound, (λ costly. cheap (IsCostly-drop_rehash costly)), parts, cut, outcome, (ComesTo-without_rehash parts outcome answer.hashings sound cut).1 comes, is))
 
+-- Rehashing changes only the answers to lines whose hash can be renewed.
 pub only_renews : (kind : Kind) (job : Job) → kind ≢ Audit → OnlyRenews kind job
 only_renews Audit job unaudited = absurd (unaudited refl)
 only_renews kind job unaudited = λ number line stream answer not_renewable.

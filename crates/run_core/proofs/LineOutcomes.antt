@@ -2,8 +2,8 @@
 -- that hash speak of a password and of a field as it was read (`Settles`). The public clauses speak of the line
 -- (`IsAnswer`), its cost (`IsCostly`) and its outcome (`ComesTo`), and `Concludes_from_Settles` leads to them. The main
 -- step: a line has only one list of parts, and a field spells at most one setting, so the cost that was compared with
--- the budget is the line's only cost. `would_check` gives the outcome that a check would have had if scrypt could not
--- allocate memory, for the clause `settles` of `check_within_budget`.
+-- the budget is the line's only cost. For the clause `settles` of `check_within_budget` where scrypt could not allocate
+-- memory, `would_check` gives the outcome that the check would otherwise have had.
 use Rattle.std.proofs.Common.{◌≡◌, ℕ, Bool, true, false, List, [], ◌∷◌, ◌++◌, codes, slice_index, length, Option, Some, None, inl, inr, refl, sym, ap, subst, ◌∙◌, true≢false, arith}
 use Rattle.std.specs.Prelude.{◌≢◌, Result, Ok, Err}
 use Rattle.std.specs.Bool.{Decides}
@@ -49,11 +49,12 @@ pub not_IsAbove-zero : (budget : Option ℕ) → ¬ IsAbove budget 0
 not_IsAbove-zero None above = above
 not_IsAbove-zero (Some budget) above = omega arith
 
+-- parts_with name password field: the parts of a line.
 abbrev parts_with : List ℕ → List ℕ → Option (List ℕ) → Parts
 parts_with name password field = record { name = name; field = field; password = password }
 
 -- A line that breaks no rule is costly if its cost, which depends on its field and the length of its password, is above
--- the budget.
+-- the budget. If the field holds a stored hash, `of.0.1.spells` is that the field spells the setting of that hash.
 IsCostly_from_parts : (kind : Kind) (job : Job) (line name password : List ℕ) (field : Option (List ℕ)) (stored : Option StoredField)
     → HasSoundParts kind line (parts_with name password field) → IsFieldOf field stored
     → IsAbove job.budget (field_cost job stored (length password)) → IsCostly kind job line
@@ -78,6 +79,7 @@ IsCostly_from_parts kind job line name password (Some field) (Some (fields.Hash 
 IsCostly_from_parts kind job line name password None (Some stored) taken of above = absurd of
 IsCostly_from_parts kind job line name password (Some field) None taken of above = absurd of
 
+-- The same for a line whose parts are known (`IsLine`).
 IsCostly_from_line : (kind : Kind) (job : Job) (line name password : List ℕ) (stored : Option StoredField) → IsLine kind line name password stored
     → IsAbove job.budget (field_cost job stored (length password)) → IsCostly kind job line
 IsCostly_from_line kind job line name password stored is above = IsCostly_from_parts kind job line name password is.field stored is.taken is.field_of above
@@ -124,10 +126,12 @@ prefix-first_byte : (method : Method) (rest : List ℕ) → slice_index (prefix 
 prefix-first_byte Md5crypt rest = refl
 prefix-first_byte method rest = refl
 
+-- A field that spells a setting begins with `$`, so it is neither empty nor locked.
 Spells-first_byte : (field : List ℕ) (kept : SettingValue) → Spells field kept → slice_index field 0 ≡ 36
 Spells-first_byte field kept spells =
     ap (λ (text : List ℕ). slice_index text 0) spells.scheme.1 ∙ prefix-first_byte (method_of kept.scheme) (spells.scheme.0 ++ (spells.field ++ spells.rest))
 
+-- A field that begins with a text has the first byte of that text.
 BeginsWith-first_byte : (field front : List ℕ) (first : ℕ) → ((rest : List ℕ) → slice_index (front ++ rest) 0 ≡ first) → BeginsWith field front → slice_index field 0 ≡ first
 BeginsWith-first_byte field front first starts begins = ap (λ (text : List ℕ). slice_index text 0) begins.1 ∙ starts begins.0
 
@@ -155,6 +159,7 @@ not_IsCostly-unstored kind job line parts field has is unstored costly =
 
 -- ---- the outcome of a line
 
+-- What a check of the stored hash comes to is the outcome of the line that has this hash in its field.
 ComesTo_from_IsChecked : (job : Job) (stream : Stream) (name password field : List ℕ) (stored : StoredHash) (hashings : List Hashing) (outcome : Outcome)
     → stored.text ≡ field → Spells field stored.setting → IsChecked job password stored stream hashings outcome
     → ComesTo job (parts_with name password (Some field)) stream outcome hashings
@@ -167,7 +172,7 @@ ComesTo_from_IsChecked job stream name password field stored hashings (Rehashed 
 ComesTo_from_IsChecked job stream name password field stored hashings outcome is spells checked = absurd checked
 
 -- If a line breaks no rule, and the cost for its password and its field is not above the budget, the line is not
--- costly, and its outcome is the one that was settled for this password and this field.
+-- costly, and its outcome is the one that `IsSettled` gives for this password and this field.
 ComesTo_from_IsSettled : (kind : Kind) (job : Job) (line : List ℕ) (stream : Stream) (name password : List ℕ) (field : Option (List ℕ)) (stored : Option StoredField)
     (hashings : List Hashing) (outcome : Outcome) → HasSoundParts kind line (parts_with name password field) → IsFieldOf field stored
     → ¬ IsAbove job.budget (field_cost job stored (length password))
@@ -200,7 +205,7 @@ pub IsAnswer-refusal : (kind : Kind) (job : Job) (number : ℕ) (line : List ℕ
 IsAnswer-refusal Audit job number line stream fault refused = inl (fault, refused, refl)
 IsAnswer-refusal kind job number line stream fault refused = inl (fault, refused, refl)
 
--- The answer to a line that is not to be audited is the answer for its password.
+-- If a line is not to be audited, `IsPasswordAnswer` implies `IsAnswer`.
 IsAnswer-password : (kind : Kind) (job : Job) (number : ℕ) (line : List ℕ) (stream : Stream) (answer : Answer) → kind ≢ Audit
     → IsPasswordAnswer kind job number line stream answer → IsAnswer kind job number line stream answer
 IsAnswer-password Audit job number line stream answer other is = absurd (other refl)
@@ -215,8 +220,8 @@ IsAnswer-audit Audit job number line stream parts field finding is taken fielded
 IsAnswer-audit Batch job number line stream parts field finding is taken fielded finds = absurd cc
 IsAnswer-audit Check job number line stream parts field finding is taken fielded finds = absurd cc
 
--- The answer to a line that breaks no rule and is within the budget is its name and the outcome that was settled for
--- its password and its field.
+-- The answer to a line that breaks no rule and is within the budget is its name and the outcome that `IsSettled` gives
+-- for its password and its field. This is the third case of `IsPasswordAnswer`, after a refusal and a costly line.
 IsPasswordAnswer_from_IsSettled : (kind : Kind) (job : Job) (number : ℕ) (line : List ℕ) (stream : Stream) (name password : List ℕ) (stored : Option StoredField)
     (hashings : List Hashing) (outcome : Outcome) → IsLine kind line name password stored
     → ¬ IsAbove job.budget (field_cost job stored (length password))
@@ -225,8 +230,8 @@ IsPasswordAnswer_from_IsSettled kind job number line stream name password stored
     let comes = ComesTo_from_IsSettled kind job line stream name password is.field stored hashings outcome is.taken is.field_of within settled in
     inr (inr (is.taken.sound, comes.0, parts_with name password is.field, is.taken.cut, outcome, comes.1, refl))
 
--- If the step for a password and a field returned this result, the result is right for a line to hash or to check that
--- breaks no rule and has this password and this field.
+-- If `Settles` holds for a password and a field, `Concludes` holds for each line to hash or to check that breaks no
+-- rule and has this password and this field.
 pub Concludes_from_Settles : (kind : Kind) (job : Job) (line name password : List ℕ) (stored : Option StoredField) (stream : Stream) (before after : Work) (new_stream : Stream)
     (result : Result (Result Outcome LineFault) HashFault) → IsLine kind line name password stored
     → Settles job password stored stream before after new_stream result → Concludes kind job line name stream before after new_stream result

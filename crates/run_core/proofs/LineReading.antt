@@ -94,6 +94,7 @@ module _ {I : Type 0} where
     held = moved.2 is.part is.held;
   }
 
+  -- The same if a `fetch` found more bytes.
   pub IsSeeking-fetched : (start now new : Device I) (piece next fetched : List ℕ) (buffer new_buffer : LineBuffer) (lines : List (List ℕ)) (left : ℕ) (found : Bool) → found ≡ true
       → TakesLine piece next buffer new_buffer false → Reads now new fetched → FetchesPiece left now new fetched (Ok found)
       → IsSeeking start now piece buffer lines → IsSeeking start new fetched new_buffer lines
@@ -187,11 +188,12 @@ module _ {I : Type 0} where
     pub fewer : left ≤ old_left
     pub shorter : to_read left reader.piece ≤ to_read old_left old_reader.piece
 
+  -- A `fetch` that returned, whether it found more bytes or not, did not fail.
   IsUnfailed-fetched : (now new : Device I) (fetched : List ℕ) (left : ℕ) (found : Bool) → FetchesPiece left now new fetched (Ok found) → IsUnfailed now new
   IsUnfailed-fetched now new fetched left true got = got.0
   IsUnfailed-fetched now new fetched left false got = got.0
 
-  -- After a `fetch`, the counts have room for the I/O calls that are left.
+  -- After a `fetch`, `HasRoomFor` holds for the I/O calls that are left.
   pub HasRoomFor-fetched : (now new : Device I) (fetched : List ℕ) (left new_left : ℕ) (found : Bool) → HasRoomFor piece_size left now → Reads now new fetched
       → FetchesPiece left now new fetched (Ok found) → length fetched ≤ piece_size → 0 < left → new_left ≡ left - 1 → new.calls + new_left ≡ now.calls + left
       → HasRoomFor piece_size new_left new

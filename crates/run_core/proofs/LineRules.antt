@@ -31,6 +31,7 @@ use Rattle.run_core.proofs.UniqueParts.{cut_unique, cut_has_colon, name_unique, 
 
 -- ---- names
 
+-- The name that a cut at the first colon gives, and the name among the parts, are the front of the line.
 pub HasFront_from_cut : (line name : List ℕ) (back : Option (List ℕ)) → IsCutOrWhole line name back → HasFront line name
 HasFront_from_cut line name None whole = inr whole
 HasFront_from_cut line name (Some back) cut = inl (back, cut)
@@ -97,9 +98,11 @@ pub record IsEntry (kind : Kind) (line : List ℕ) (parts : Parts) : Type 0 wher
   pub cut : HasParts kind line parts
   pub password : IsPassword parts.password
 
+-- IsFieldRefused field fault: the field is neither empty nor locked, and is refused as a setting, with this error.
 abbrev pub IsFieldRefused : List ℕ → SettingFault → Type 0
 IsFieldRefused field fault = IsStored field × IsRefused field fault
 
+-- A line with a good name is refused as `NoPassword` if it has no parts.
 pub refused_without_parts : (kind : Kind) (line : List ℕ) → IsNamed line → ((parts : Parts) → ¬ HasParts kind line parts)
     → IsLineRefused kind line NoPassword
 refused_without_parts kind line named lacks =
@@ -110,6 +113,7 @@ password-first_broken : (bytes : List ℕ) (fault : PasswordFault) → IsPasswor
 password-first_broken bytes TooLong refused = inl (refl, refused)
 password-first_broken bytes HasNul refused = inr ((λ long. omega (arith, long, refused.0)), inl (refl, refused))
 
+-- A line with a good name and its parts is refused for the first rule that its password breaks.
 pub refused_password : (kind : Kind) (line : List ℕ) (parts : Parts) (fault : PasswordFault)
     → IsNamed line → HasParts kind line parts → IsPasswordRefused parts.password fault
     → IsLineRefused kind line (Password fault)
@@ -122,6 +126,7 @@ refused_password kind line parts fault named cut refused =
           fault (password-first_broken parts.password fault refused),
     ))
 
+-- A line with a good name, its parts and a valid password breaks none of the rules before those on the field.
 pub IsEntry_from_IsNamed : (kind : Kind) (line : List ℕ) (parts : Parts) → IsNamed line → HasParts kind line parts → IsPassword parts.password → IsEntry kind line parts
 IsEntry_from_IsNamed kind line parts named cut is_password = record {
   short = named.short;
@@ -130,6 +135,7 @@ IsEntry_from_IsNamed kind line parts named cut is_password = record {
   password = is_password;
 }
 
+-- A valid password breaks no rule of passwords, so the line does not break one.
 not_refused_from_IsPassword : (bytes : List ℕ) (fault : PasswordFault) → IsPassword bytes → IsPasswordRefused bytes fault → ⊥
 not_refused_from_IsPassword bytes TooLong is_password refused = omega (arith, is_password.0, refused)
 not_refused_from_IsPassword bytes HasNul is_password refused = is_password.1 refused.1
@@ -168,10 +174,12 @@ IsSound_from_IsEntry kind line parts entry right fault breaks = go fault breaks
         right fault refused.0 breaks.0 refused.1 refused.2
     go OverBudget breaks = breaks
 
+-- A line without a field breaks no rule, if it breaks none of the rules before those on the field.
 pub IsSound-no_field : (kind : Kind) (line : List ℕ) (parts : Parts) → IsEntry kind line parts → parts.field ≡ None → IsSound kind line
 IsSound-no_field kind line parts entry none = IsSound_from_IsEntry kind line parts entry (λ fault field unaudited some refused. cc)
 
--- A field that was read without an error, and has at most one reading, is not refused.
+-- A field that was read without an error, and has at most one reading, is not refused. A refused field is neither empty
+-- (`refused.0.0`) nor locked (`refused.0.1`).
 not_IsFieldRefused-read : (field : List ℕ) (stored : StoredField) → IsReadOneWay field → IsFieldReading field (Ok stored) → (fault : SettingFault) → IsFieldRefused field fault → ⊥
 unfolding IsReadOneWay
 not_IsFieldRefused-read field Empty one read fault refused = refused.0.0 read
@@ -180,6 +188,8 @@ not_IsFieldRefused-read field (Hash stored) one read fault refused =
     let both : Ok stored.setting ≡ Err fault = one (Ok stored.setting) (Err fault) read.1.spells refused.1 in
     absurd cc
 
+-- A line whose field was read without an error breaks no rule, if it breaks none of the rules before those on the
+-- field.
 pub IsSound-field : (kind : Kind) (line : List ℕ) (parts : Parts) (field : List ℕ) (stored : StoredField) → IsEntry kind line parts → parts.field ≡ Some field
     → IsReadOneWay field → IsFieldReading field (Ok stored) → IsSound kind line
 IsSound-field kind line parts field stored entry is one read = IsSound_from_IsEntry kind line parts entry (λ fault other unaudited some refused.

@@ -2,8 +2,10 @@
 -- the loop is `IsRunning`: each line that the reader has returned is answered, the outputs have taken these answers and
 -- nothing else, and no count can overflow in the rest of the run. `IsRunning-start` shows that it holds at first, and
 -- `IsRunning-answered` that it still holds when one more answer is written. For each exit of the loop, a lemma shows
--- `RunsLines`: reading stopped, scrypt could not allocate memory, an answer was cut short, or all lines are answered
--- and the outputs are flushed or not.
+-- `RunsLines`: reading stopped, scrypt could not allocate memory, an answer was written only in part, or all lines are
+-- answered and both outputs were flushed, or a flush failed. Where the run stops at an answer, the case of `EndsBy` is
+-- the third, `inr (inr (inl ..))`. In it, `inl` is a failed write, `inr (inl ..)` that no I/O call was left, and
+-- `inr (inr ..)` that scrypt could not allocate memory.
 use Rattle.std.proofs.Common.{◌≡◌, ℕ, ◌+◌, ◌*◌, ◌^◌, ◌≤◌, ◌<◌, ◌⊎◌, Bool, true, false, MatchBool, List, [], ◌∷◌, ◌++◌, length, Result, Ok, Err, refl, sym, ap, subst, ◌∙◌, add-zero, append-nil, arith, inl, inr}
 use Rattle.std.specs.Io.KnownBytes.{IsAtEnd}
 use Rattle.std.proofs.Math.Nat.{mul-le-mul_left}
@@ -17,7 +19,7 @@ use Rattle.run_core.specs.LineAnswers.{AreAnswers, IsAnswer}
 use Rattle.run_core.specs.LineRuns.{RunsLines, HasLines, lines_of, piece_size}
 use Rattle.run_core.specs.Output.{Takes, TakesFront}
 use Rattle.run_core.specs.Private.Answers.{IsRaisedBelow, Renders, counted, outcome_of}
-use Rattle.run_core.specs.Private.Deliveries.{FinishesBoth, IsFinished, IsKept, IsUnfinished, Sends}
+use Rattle.run_core.specs.Private.Deliveries.{FinishesBoth, HasSameContents, IsFinished, IsUnfinished, Sends}
 use Rattle.run_core.specs.Private.Fetching.{StopsFetching}
 use Rattle.run_core.specs.Private.Headroom.{HasRoomFor, HasRoomForLines, answer_limit, line_work_limit, to_read}
 use Rattle.run_core.specs.Private.Lines.{Represents}
@@ -37,9 +39,9 @@ use Rattle.run_core.proofs.LineReading.{HasGiven-nil}
 use Rattle.run_core.proofs.MovedBytes.{MovesBytes-none, MovesBytes-trans}
 use Rattle.run_core.proofs.SentTexts.{Takes-trans, TakesFront-after, Takes-nil}
 
--- ---- room for counts
+-- ---- counts that cannot overflow
 
--- If the counts have room for some I/O calls, they have room for fewer.
+-- If `HasRoomFor` holds for some number of I/O calls, it holds for any smaller number.
 pub HasRoomFor-fewer : {T : Type 0} (size left fewer : ℕ) (device : Device T) → fewer ≤ left → HasRoomFor size left device → HasRoomFor size fewer device
 HasRoomFor-fewer size left fewer device less room = record {
   failures = room.failures;
@@ -86,22 +88,23 @@ MovesBytes-at_end : {I : Type 0} (at_end : Bool) (start now : Device I) → Move
 MovesBytes-at_end true start now moves = moves
 MovesBytes-at_end false start now moves = record { idle = omega (arith, moves.idle); calls = omega (arith, moves.calls) }
 
+-- A read that stops a run adds at most one failure.
 StopsFetching-failures : {I : Type 0} (left : ℕ) (start now : Device I) (fault : RunFault) → StopsFetching left start now fault → now.failures ≤ start.failures + 1
 StopsFetching-failures left start now fault (moves, inl stops) = omega (arith, stops.1)
 StopsFetching-failures left start now fault (moves, inr stops) = omega (arith, stops.1)
 
 -- A flush makes no I/O call, so `MovesBytes` holds for it.
-MovesBytes_from_IsKept : {T : Type 0} (old new : Device T) → IsKept old new → old.failures ≤ new.failures → MovesBytes 0 old new
-MovesBytes_from_IsKept old new kept failures = record {
+MovesBytes_from_HasSameContents : {T : Type 0} (old new : Device T) → HasSameContents old new → old.failures ≤ new.failures → MovesBytes 0 old new
+MovesBytes_from_HasSameContents old new kept failures = record {
   idle = omega (arith, kept.idle);
   calls = omega (arith, kept.calls, kept.bytes, failures);
 }
 
 MovesBytes_from_IsFinished : {T : Type 0} (old new : Device T) → IsFinished old new → MovesBytes 0 old new
-MovesBytes_from_IsFinished old new finished = MovesBytes_from_IsKept old new finished.kept (let unfailed = finished.unfailed in omega (arith, unfailed))
+MovesBytes_from_IsFinished old new finished = MovesBytes_from_HasSameContents old new finished.kept (let unfailed = finished.unfailed in omega (arith, unfailed))
 
 MovesBytes_from_IsUnfinished : {T : Type 0} (old new : Device T) → IsUnfinished old new → MovesBytes 0 old new
-MovesBytes_from_IsUnfinished old new unfinished = MovesBytes_from_IsKept old new unfinished.kept (let failed = unfinished.failed in omega (arith, failed))
+MovesBytes_from_IsUnfinished old new unfinished = MovesBytes_from_HasSameContents old new unfinished.kept (let failed = unfinished.failed in omega (arith, failed))
 
 -- Flushing both outputs makes no I/O call, and at most one flush fails.
 MovesBytes_from_FinishesBoth : {O E : Type 0} (out new_out : Device O) (faults new_faults : Device E) {A : Type 0} (result : Result A RunFault)
@@ -136,6 +139,7 @@ IsAt-cases : {I : Type 0} (now : Device I) (piece : List ℕ) (at_end : Bool) (l
 IsAt-cases now piece false lines bytes at = inl (piece, at.0, at.1)
 IsAt-cases now piece true lines bytes at = inr at
 
+-- The full answer has the outcome that `answer_line` returned.
 pub outcome_from_Renders : (job : Job) (number : ℕ) (value : Result Answered LineFault) (next : Answer) → Renders job number value next → next.outcome ≡ outcome_of value
 outcome_from_Renders job number (Ok answered) next renders = ap (λ (a : Answer). a.outcome) renders.0
 outcome_from_Renders job number (Err fault) next renders = ap (λ (a : Answer). a.outcome) renders
@@ -206,8 +210,8 @@ module _ {I O E : Type 0} where
 -- In this module, the run has called `next_line`, after which the input is `input`, and `mid` I/O calls are left.
 module _ {I O E : Type 0} {turns : ℕ} {kind : Kind} {job : Job} {start old : RunState I O E} {reader : LineReader} {tally : Tally} {left : ℕ}
     (running : IsRunning turns kind job start old reader tally left) (input : Device I) (mid : ℕ) (read_calls : input.calls + mid ≡ old.input.calls + left) where
-  -- The run is within its limits if the outputs made no more I/O calls after the read than were left, and at most one
-  -- call of the whole run failed.
+  -- The run is within its limits if at most one of all its calls failed, all others but one read moved a byte, and the
+  -- outputs made no more I/O calls after `next_line` than were left.
   IsWithinTurns-after_read : (new_left : ℕ) (new : RunState I O E) → MovesBytes 1 start.input new.input → MovesBytes 0 old.out new.out → MovesBytes 0 old.faults new.faults
       → failures_of new ≤ failures_of start + 1 → new.input.calls ≡ input.calls
       → new.out.calls + new.faults.calls + new_left ≡ old.out.calls + old.faults.calls + mid → IsWithinTurns turns start new
@@ -263,6 +267,7 @@ module _ {I O E : Type 0} {turns : ℕ} {kind : Kind} {job : Job} {start old : R
         },
       )
 
+  -- Flushing both outputs leaves the run within its I/O calls.
   IsWithinTurns-flushed : (next : LineReader) (out : Device O) (faults : Device E) {A : Type 0} (result : Result A RunFault) → HasGiven start.input input next running.lines
       → FinishesBoth old.out old.faults out faults result → IsWithinTurns turns start (run_state input out faults old.stream old.counts)
   IsWithinTurns-flushed next out faults result given flushes =

@@ -1,6 +1,6 @@
--- `MovesBytes` for two steps, one after the other. The clauses that bound the calls of a device by the bytes that it
--- moved need this: `moves` of `send` and `read_first_line`, `gives` of `LineReader::next_line`, and `runs` of each run.
--- The lemmas only add inequalities.
+-- If `MovesBytes` holds for two steps, it holds for both together. The clauses that bound the calls of a device by the
+-- bytes that it moved need this: `moves` of `send` and `read_first_line`, `gives` of `LineReader::next_line`, and
+-- `runs` of each run. The lemmas only add inequalities.
 use Rattle.std.proofs.Common.{ℕ, arith}
 use Rattle.run_core.specs.Devices.{Device, MovesBytes}
 

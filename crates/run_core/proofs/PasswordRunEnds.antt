@@ -2,11 +2,16 @@
 -- shows `EndsOne` from the clauses of the steps before it. The exits are, in order: there is no password, scrypt could
 -- not allocate memory, writing stopped, both outputs were flushed, or a flush failed. `EndsOne_from_EndsPassword`
 -- covers both sources of the password, so the lemmas after it need not know where the password came from.
+--
+-- The cases of `EndsPassword` are those of `EndsBy`, in order: the hash was written but a flush failed (`inl`), reading
+-- stopped (`inr (inl ..)`), the run stopped at the answer (`inr (inr (inl ..))`), or the password was refused (`inr
+-- (inr (inr ..))`). The run stops at the answer in one of three cases: a write failed, no I/O call was left, or scrypt
+-- could not allocate memory.
 use Rattle.std.proofs.Common.{◌≡◌, ℕ, ◌+◌, ◌≤◌, List, [], ◌∷◌, length, Result, Ok, Err, refl, sym, ap, subst, ◌∙◌, add-zero, append-nil, arith, inl, inr}
 use Rattle.std.specs.Prelude.{⊤}
 use Rattle.rand_core.specs.Stream.{Stream}
 use Rattle.prims_core.specs.declared.meter.Work.{Work}
-use Rattle.crypt_core.specs.Crypt.{IsAfterRefusedGrowth}
+use Rattle.crypt_core.specs.Crypt.{IsAfterFailedAllocation}
 use Rattle.crypt_core.specs.Passwords.{IsPassword, password_limit}
 use Rattle.crypt_core.specs.Work.{raised_by, work}
 use Rattle.run_core.specs.Answers.{hashings_of, new_hashing, password_answer}
@@ -114,7 +119,7 @@ module _ {I O E : Type 0} (turns : ℕ) (job : Job) where
   -- Exit without memory: if scrypt could not allocate memory for the hash, the run ends with `OutOfMemory`.
   pub EndsOne-out_of_memory : (from : PasswordFrom) (password : List ℕ) (old : RunState I O E) (input : Device I) (stream : Stream) (counts : Work) (left : ℕ)
       → ObtainsFrom from old.input input left (Ok password) → stream ≡ stream_after job.maker old.stream
-      → IsAfterRefusedGrowth old.counts (next_setting job.maker old.stream).scheme counts
+      → IsAfterFailedAllocation old.counts (next_setting job.maker old.stream).scheme counts
       → EndsOne turns job from old (outputs_kept old input stream counts) (Err OutOfMemory)
   EndsOne-out_of_memory from password old input stream counts left obtains drawn refused =
       let is = IsPassword_from_ObtainsFrom from old.input input left password obtains in

@@ -1,7 +1,7 @@
 -- Lemmas for the clauses of `send`. The invariant of its loop is `IsUnderWay`: a prefix of the text was taken, no call
 -- failed, and each call took a byte. `IsUnderWay-step` shows that one `give` keeps it. `Takes-trans` and
 -- `TakesFront-after` join what an output took in two steps, and the runs use them too. `Shows-as_tally` is for the
--- clause `shows` of `run_methods`, and for the crate mkpasswd where it shows an error.
+-- clause `shows` of `run_methods`, and for the crate mkpasswd, which writes its messages with `show`.
 use Rattle.std.proofs.Common.{◌≡◌, ℕ, ◌+◌, ◌<◌, ◌≤◌, List, [], ◌++◌, length, take, drop, arith, refl, sym, ◌∙◌, ap, append_assoc, false, nat_eq, Result, Ok, Err, nat_lt, ◌&&◌, ◌-◌, add-zero}
 use Rattle.std.proofs.lemmas.List.{length-append, length-take-le, take-append-drop}
 use Rattle.std.specs.Io.KnownBytes.{Appends}
@@ -115,6 +115,7 @@ abbrev pub as_tally : {A : Type 0} → Result A RunFault → Result Tally RunFau
 as_tally (Ok done) = Ok (tally_of [])
 as_tally (Err fault) = Err fault
 
+-- `Shows` does not depend on what a successful result holds.
 pub Shows-as_tally : {A T : Type 0} (turns : ℕ) (old new : Device T) (text : List ℕ) (result : Result A RunFault)
     → Shows turns old new text result → Shows turns old new text (as_tally result)
 Shows-as_tally turns old new text (Ok done) shows = shows

@@ -3,7 +3,7 @@ use Rattle.std.specs.Prelude.{◌≡◌, ◌==◌, ◌&&◌, Bool, ℕ, List, []
 use Rattle.rand_core.specs.Stream.{Stream}
 use Rattle.prims_core.specs.Work.{no_work}
 use Rattle.prims_core.specs.declared.meter.Work.{Work}
-use Rattle.crypt_core.specs.Crypt.{crypt, IsAfterRefusedGrowth}
+use Rattle.crypt_core.specs.Crypt.{IsAfterFailedAllocation, crypt}
 use Rattle.crypt_core.specs.Settings.{SettingValue}
 use Rattle.crypt_core.specs.Work.{raised_by, work}
 use Rattle.crypt_core.specs.Findings.{needs_care}
@@ -46,7 +46,7 @@ stream_left stream made = fold (λ before next. next.stream) stream made
 abbrev pub IsRefusedAmong : Work → List Hashing → Work → Stream → Type 0
 IsRefusedAmong before hashings after stream =
     (made : List Hashing) × (next : Hashing) × (others : List Hashing) × (hashings ≡ made ++ next ∷ others)
-    × IsAfterRefusedGrowth (after_work before made) next.setting.scheme after × (stream ≡ next.stream)
+    × IsAfterFailedAllocation (after_work before made) next.setting.scheme after × (stream ≡ next.stream)
 
 -- ---- answers
 

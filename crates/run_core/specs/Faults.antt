@@ -16,8 +16,7 @@ line_fault_text (Password fault) = password_fault_text fault
 line_fault_text (Setting fault) = setting_fault_text fault
 line_fault_text OverBudget = codes "over budget"
 
--- run_row fault is the exit status and the message of an error. The status is 2 for an invalid password, and 3 for a
--- system error, a failed allocation or too many I/O calls.
+-- run_row fault is the exit status and the message of an error.
 abbrev pub run_row : RunFault → ℕ × List ℕ
 run_row run.Read = (3, codes "read fault")
 run_row run.Write = (3, codes "write fault")

@@ -33,7 +33,7 @@ EndsOne turns job Input old new result = (bytes : List ℕ) × Reads old.input n
     × EndsPassword (IsDecided new.input bytes) (HasNoLineFeed bytes × (length bytes ≤ password_limit)) turns job (first_line bytes) old new result
 
 -- RunsOne turns job from old new result: the run for one password ends with this result, within `turns` I/O calls. The
--- job's budget and its wish for rehashes make no difference.
+-- job's `budget` and `rehash` make no difference.
 pub record RunsOne {I O E : Type 0} (turns : ℕ) (job : Job) (from : PasswordFrom) (old new : RunState I O E) (result : Result Tally RunFault) : Type 0 where
   pub ends : EndsOne turns job from old new result
   pub options : EndsOne turns (without_rehash (without_budget job)) from old new result

@@ -8,7 +8,8 @@ use Rattle.run_core.specs.declared.fault.RunFault.TheVariants.{Write, Turns}
 -- Takes failures flushes old new bytes: the output has taken exactly these bytes. If the output exposes its contents,
 -- they now end with these bytes.
 --   failures  the number of calls that failed
---   flushes   the number of flushes, all after these bytes; a single flush is recorded as a success if no call failed
+--   flushes   the number of flushes, all after these bytes. If there was one and no call failed, `flushed` is the
+--             number of all bytes; otherwise it is unchanged
 pub record Takes {T : Type 0} (failures flushes : ℕ) (old new : Device T) (bytes : List ℕ) : Type 0 where
   pub shown : Appends old.shown new.shown bytes
   pub counted : new.bytes ≡ old.bytes + length bytes

@@ -2,7 +2,7 @@
 //! its hashes have been computed.
 ghost use Rattle.std.specs.Prelude.{◌≡◌, ℕ, List, decimal, ◌+◌, ◌*◌, ◌<◌, ◌≤◌, ◌++◌, [], length, Some, None, Ok, IfOk, OnOk, OnErr};
 ghost use Rattle.arrayvec.specs.ArrayVec.{array_vec_len};
-ghost use Rattle.crypt_core.specs.Crypt.{IsAfterRefusedGrowth};
+ghost use Rattle.crypt_core.specs.Crypt.{IsAfterFailedAllocation};
 ghost use Rattle.crypt_core.specs.Work.{raised_by, work, work_limit};
 ghost use Rattle.prims_core.specs.Meter.{HasRoom};
 ghost use Rattle.prims_core.specs.Work.{IsWithin};
@@ -62,7 +62,8 @@ pub(crate) enum Outcome {
 }
 
 impl Outcome {
-    /// Returns whether the password does not match its stored hash, or the audited account needs care.
+    /// Returns whether the password does not match its stored hash, or the audited account needs care
+    /// ([`Finding::needs_care`]).
     pub(crate) fn is_misfit(&self) -> bool
         ensures { result ≡ is_misfit (Ok self.now) }
     {
@@ -243,7 +244,7 @@ pub(crate) fn make_hash<R: Rng>(
     requires { HasRoom meter.old }
     ensures hash { IfOk result (λ hash. hash ≡ new_hash job.now password.now (R.stream rng.old)) }
     ensures count { OnOk result (meter.new ≡ raised_by meter.old (work password.now (next_setting job.now.maker (R.stream rng.old)))) }
-    ensures refused { OnErr result (IsAfterRefusedGrowth meter.old (next_setting job.now.maker (R.stream rng.old)).scheme meter.new) }
+    ensures refused { OnErr result (IsAfterFailedAllocation meter.old (next_setting job.now.maker (R.stream rng.old)).scheme meter.new) }
     ensures stream { R.stream rng.new ≡ stream_after job.now.maker (R.stream rng.old) }
     ensures rises { IsWithin meter.old meter.new }
     ensures small { IsRaisedBelow work_limit meter.old meter.new }

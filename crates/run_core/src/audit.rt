@@ -12,7 +12,7 @@ use rand_core::Rng;
 
 /// Returns what an audit finds in a field, given the job's scheme and budget.
 ///
-/// Without a budget in the job, the audit uses the budget of the scheme, for which 0 stands in [`Finding::of`].
+/// If the job has no budget, the function passes 0 to [`Finding::of`], which then uses the budget of the scheme.
 pub(crate) fn audit(job: &Job, field: &[u8]) -> Finding
     ensures { Finds job.now.maker.scheme (given_budget job.now) field.now result }
 {

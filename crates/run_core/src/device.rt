@@ -72,8 +72,8 @@ impl<I: Read> Input<I> {
 
     /// Reads once into the front of `buffer` and returns the number of bytes read.
     ///
-    /// It returns 0 at the end of the input, or if `buffer` is empty. Precondition: the 64-bit counts have room for one
-    /// more call, one more failure and as many more bytes as `buffer` has.
+    /// It returns 0 at the end of the input, or if `buffer` is empty. Precondition: no 64-bit count overflows if one
+    /// call, one failure and as many bytes as `buffer` has are added.
     ///
     /// # Errors
     ///
@@ -169,8 +169,7 @@ impl<O: Write> Output<O> {
 
     /// Writes once from the front of `piece` and returns the number of bytes that the writer took.
     ///
-    /// Precondition: the 64-bit counts have room for one more call, one more failure and as many more bytes as `piece`
-    /// has.
+    /// Precondition: no 64-bit count overflows if one call, one failure and as many bytes as `piece` has are added.
     ///
     /// # Errors
     ///
@@ -199,7 +198,7 @@ impl<O: Write> Output<O> {
 
     /// Flushes the writer once. This moves no byte.
     ///
-    /// Precondition: the 64-bit counts have room for one more flush and one more failure.
+    /// Precondition: no 64-bit count overflows if one flush and one failure are added.
     ///
     /// # Errors
     ///

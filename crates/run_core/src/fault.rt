@@ -24,8 +24,7 @@ pub enum RunFault {
 impl RunFault {
     ghost use Rattle.run_core.specs.Faults.{run_row};
 
-    /// Returns the exit status: 2 for an invalid password, 3 for a system error, a failed allocation or too many I/O
-    /// calls.
+    /// Returns the exit status: 2 for an invalid password, and 3 for every other error.
     pub fn status(&self) -> u8
         ensures { result ≡ (run_row self.now).0 }
     {

@@ -90,10 +90,10 @@ impl Model for Maker {
 }
 
 impl Maker {
-    /// Returns a maker of settings with this method and cost, and with this salt if there is one.
+    /// Returns a maker of settings with this method, these rounds, and this salt if there is one.
     ///
-    /// Without a salt, each setting gets a new one. Cost 0 is the method's default. For SHA-crypt, any other cost is
-    /// the number of rounds, clamped to 1000..999999999. scrypt takes 6 to 11, and md5crypt ignores the cost.
+    /// Without a salt, each setting gets a new one. `cost` (the number after `-R`) gives the rounds, as
+    /// [`Scheme::made`] takes them.
     ///
     /// # Errors
     ///
@@ -101,7 +101,7 @@ impl Maker {
     ///
     /// - `SaltLength`: the salt is empty, or has more characters than the method keeps.
     /// - `SaltCharacter`: the salt has a byte outside crypt's alphabet.
-    /// - `Cost`: scrypt does not accept the cost.
+    /// - `Cost`: the method does not accept the rounds.
     pub fn new(method: Method, cost: u32, salt: Option<&[u8]>) -> Result<Maker, MakeFault>
         ensures made { IfOk result (λ maker. maker ≡ record { scheme = made_scheme method cost; salt = bytes_of salt.entry }) }
         ensures accepted { IsOk result ↔ ((fault : Fault) → ¬ BreaksMake method cost (bytes_of salt.entry) fault) }

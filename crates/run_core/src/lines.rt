@@ -55,10 +55,10 @@ use std::io::{Read, Write};
 ///
 /// # Errors
 ///
-/// When the run ends with an error, all earlier lines have been answered in full. Nothing else has been written, except
-/// where stated.
+/// When the run ends with an error, all lines before the one at which it stopped have been answered in full. Nothing
+/// else has been written, except where stated.
 ///
-/// - `Read`: a read failed. The earlier lines are those whose line feed was read.
+/// - `Read`: a read failed. The answered lines are those whose line feed was read.
 /// - `OutOfMemory`: scrypt could not allocate memory for the next line.
 /// - `Write`: a write failed, and only a prefix of the next line's output has been written; or a flush failed, after
 ///   all lines.

@@ -21,7 +21,7 @@ use rand_core::Rng;
 use std::alloc::Global;
 use std::io::{Read, Write};
 
-/// Hashes one password with the job's setting and writes the hash and a line feed to `out`.
+/// Hashes one password with the next setting of the job's maker, and writes the hash and a line feed to `out`.
 ///
 /// The password is an argument or the first line of the input, which ends before the first line feed or at the end of
 /// the input. The run drops whatever it has read after that line feed. It checks the password first, then draws three

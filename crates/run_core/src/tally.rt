@@ -8,7 +8,7 @@ pub struct Tally {
     pub lines: u64,
     /// The refused lines.
     pub refused: u64,
-    /// The lines with the verdict `no`, and the audited accounts that need care.
+    /// The lines with the verdict `no`, and the audited accounts that need care ([`Tally::status`]).
     pub misfits: u64,
 }
 
@@ -29,6 +29,8 @@ impl Tally {
     /// Returns the exit status of a run that ends with this tally.
     ///
     /// It is 1 if a line was refused or got the verdict `no`, or if an audited account needs care. Otherwise it is 0.
+    /// An account needs care ([`Finding::needs_care`](crypt_core::finding::Finding::needs_care)) if its field is empty,
+    /// malformed or of no scheme, or if its hash is over budget, dead or outdated.
     pub fn status(&self) -> u8
         ensures { result ≡ tally_status self.now }
     {

@@ -1,5 +1,5 @@
 //! Tests runs on devices in memory: which calls they make, what they leave after each failure or when no I/O call is
-//! left, and what they draw and count. Whatever the built program shows as well is tested in the repository's suite.
+//! left, and what they draw and count. What the built program shows too is tested in the repository's `tests`.
 ghost use Rattle.std.specs.Prelude.{◌≡◌, ℕ, ◌^◌, ◌≤◌, List, ◌++◌, Some, OnOk};
 ghost use Rattle.prims_core.specs.Work.{IsAtMost};
 ghost use Rattle.run_core.specs.Answers.{Answer, fault_texts, texts};
@@ -120,6 +120,7 @@ fn devices<'a>(
     input: &'a [u8],
     (reads, writes): (usize, usize),
 ) -> Given<'a> {
+    // The prover needs this bound, which `MemoryReader::new` requires.
     assert!(rt; reads > 0);
     Given {
         reader: MemoryReader::new(alloc, input, reads),
@@ -220,13 +221,15 @@ struct Left<'a> {
     meter: Meter,
 }
 
-// Runs with the random numbers 129, 0, 0, 130, 0, 0 and 7.
+// Runs with random numbers for two salts: 129, 0 and 0 give one that begins with `/0`, and 130, 0 and 0 one that begins
+// with `00`. The next number is 7 once both salts have been made.
 fn left_by<'a>(
     rt: &impl Abort,
     alloc: Global,
     asked: Asked<'_>,
     given: Given<'a>,
 ) -> Result<Left<'a>, Fail> {
+    // The prover needs this bound, which `run_on` requires.
     assert!(rt; given.turns <= 1 << 40);
     let Ok(maker) = Maker::new(asked.method, asked.cost, asked.salt) else {
         panic!(rt; "no setting");
@@ -306,8 +309,9 @@ fn draws_and_counts(rt: HostRuntime) -> Result<(), Fail> {
         ..within(salting(CHECK), 1927021)
     };
     let over = "mkpasswd: line 1: over budget\n";
-    // In each row: the run, its input and outcome, both outputs, the next random number, and the number of digests. If
-    // no digests were computed, the meter's counts of bytes, mixes and table must be 0 too.
+    // In each row: the run, its input and outcome, both outputs, the next random number, and the number of digests. The
+    // meter's counts of bytes, mixes and table must all be 0 exactly if no digest was computed. Each budget is one less
+    // than the cost of its line or of its first field.
     let rows: [(Asked<'_>, &str, Outcome, &str, &str, u64, u128); 10] = [
         (
             salting(BATCH),

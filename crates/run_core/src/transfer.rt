@@ -1,4 +1,4 @@
-//! The device calls that all runs share: read a piece of the input, find the line feed in it, write a whole text, and
+//! What the runs do with their devices: read a piece of the input and find the line feed in it, write a whole text, and
 //! flush both outputs at the end. Each read or write uses one of the I/O calls that the run has left.
 ghost use Rattle.std.specs.Prelude.{◌≡◌, ◌+◌, ◌-◌, ◌^◌, ◌<◌, ◌≤◌, ◌==◌, length, position, OnOk};
 ghost use Rattle.run_core.specs.Devices.{HasRoomWithinRun, MovesBytes, turns_limit};

@@ -34,7 +34,7 @@ _METHODS = {"1": "md5crypt", "5": "sha256crypt", "6": "sha512crypt", "7": "scryp
 _LEAST_ROUNDS = 1000  # of SHA-crypt
 
 # The method's number, the rounds, the salt and the digest of a whole hash. In a hash of scrypt,
-# eleven characters of cost come before the salt.
+# eleven characters of cost come before the salt, and the group for the rounds is empty.
 _FORMS = (
     re.compile(r"\$([156])\$(?:rounds=([0-9]+)\$)?([^$]*)\$([^$]+)\Z"),
     re.compile(r"\$(7)\$.{11}()(.*)\$([^$]+)\Z"),
@@ -94,7 +94,7 @@ class MkpasswdPasswordHasher(BasePasswordHasher):
             raise InvalidPassword(str(error)) from None
 
     def verify(self, password: str, encoded: str) -> bool:
-        """Return whether it matches. If it can't be checked, this takes as long as a new hash."""
+        """Return whether it matches. A hash that can't be checked takes as long as a new one."""
         field = self._field(encoded)
         try:
             policy = self._policy_for(password)
@@ -109,7 +109,7 @@ class MkpasswdPasswordHasher(BasePasswordHasher):
         return False
 
     def harden_runtime(self, password: str, encoded: str) -> None:
-        """Make up for a cheaper verify(), so that both together cost as much as a new hash."""
+        """Make up for a cheaper verify(): both together cost at least as much as a new hash."""
         field = self._field(encoded)
         # A password that can't be hashed costs nothing for an unknown name either.
         with suppress(MemoryError, ValueError):
@@ -166,6 +166,7 @@ class MkpasswdPasswordHasher(BasePasswordHasher):
         if policy.cost(field, password_len) > policy.limit().cost:
             return None  # verify() has made a new hash
         stored = policy.describe(field)
+        # The rounds of another method, or of scrypt, can't be subtracted: make a whole new hash.
         if stored.scheme != policy.method or stored.rounds is None or not policy.limit().rounds:
             return policy
         remaining = policy.limit().rounds - stored.rounds
@@ -205,4 +206,4 @@ def _rounds(number: str, digits: Optional[str]) -> Optional[int]:
     """Returns the rounds of a hash of SHA-crypt, or None for another method."""
     if digits:
         return int(digits)
-    return 5000 if number in ("5", "6") else None
+    return 5000 if number in ("5", "6") else None  # those of a hash that names none

@@ -64,7 +64,7 @@ class FixedTime:
         self._process: Optional[int] = None  # the process that has the threads
 
     def submit(self, login: Callable[..., bool], *arguments: Any, **keywords: Any) -> Future[bool]:
-        """Run login(*arguments, **named) in a thread, and return its answer as a future.
+        """Run login(*arguments, **keywords) in a thread, and return its answer as a future.
 
         If the login raises an exception, so does the future, after the fixed time.
 

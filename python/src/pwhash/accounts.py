@@ -7,6 +7,7 @@ from collections.abc import Iterable
 from typing import Dict, List, Set
 
 from pwhash.console import Console
+from pwhash.field import is_encoded
 from pwhash.lines import BYTE_ORDER_MARK, Line, LineGroups
 from pwhash.shown_names import MAX_NAMED, shown_line
 from pwhash.stored import Stored, stored_in
@@ -23,15 +24,18 @@ class Accounts:
         self._console = console
         self._can_be_read_again = os.path.isfile(path)
         self.repeated = 0  # how many lines of FIELDS have the name of an earlier one
+        self.encoded: List[int] = []  # lines of FIELDS with a hash in Base64
         self._fields = self._read()
         self.absent: List[int] = []  # lines whose name has no account
         self.marked: List[int] = []  # lines with a carriage return or a byte order mark
         self.odd = 0  # how many lines aren't UTF-8, or have a zero byte
 
     def _read(self) -> Dict[bytes, bytes]:
-        """Returns the field of each name, in its first line. Reports its further lines."""
+        """Returns the field in the first line of each name. Reports further lines of the name."""
         first_lines: Dict[bytes, Stored] = {}
         for stored in stored_in(self._path, self._console):
+            if is_encoded(stored.field) and len(self.encoded) < MAX_NAMED:
+                self.encoded.append(stored.number)
             first = first_lines.setdefault(stored.name, stored)
             if first is stored:
                 continue

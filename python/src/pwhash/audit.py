@@ -12,7 +12,7 @@ from mkpasswd import Description, State
 from pwhash import findings, library
 from pwhash.console import Console
 from pwhash.errors import UsageError
-from pwhash.field import Field, field_of
+from pwhash.field import Field, encoded_value, field_of
 from pwhash.findings import Finding, Judgement
 from pwhash.lines import NO_PASSWORD, Line, refused_name
 from pwhash.options import AuditOptions
@@ -74,7 +74,12 @@ def judge(line: Line, policy: mkpasswd.Policy, judges_locked: bool) -> Judgement
     name, colon, rest = line.data.partition(b":")
     if not colon:
         return findings.judge_refused_line(line.number, NO_PASSWORD.message)
+    if encoded_value(rest):
+        is_ldif = rest.startswith(b":")  # whose name is that of an attribute
+        shown = shown_name(b"" if is_ldif else name, line.number)
+        return findings.judge_encoded(line.number, shown)
     stored, colon, further = rest.partition(b":")
+    # In a line hash:name or password:name, what is in the place of the name isn't shown.
     is_of_account = bool(colon) and has_number_first(further)
     is_swapped = could_be_name(stored) and not is_of_account
     shown = shown_name(b"" if is_swapped else name, line.number)

@@ -67,7 +67,7 @@ def run(options: CalibrateOptions, session: Session) -> bool:
 
 
 def costliest_within(method: str, cost_limit: int) -> CalibratedPolicy:
-    """Returns the policy with the most rounds within a budget, or the cheapest if there is none.
+    """Returns the policy with the most rounds within the limit, or the cheapest if none is.
 
     The library's own limit has a floor. If that is too high, the budget is the limit without it.
     """

@@ -8,6 +8,7 @@ from typing import List, NamedTuple, Optional, Set, Union
 from pwhash import library
 from pwhash.accounts import Accounts
 from pwhash.answers import Answer, Writer, refusal_answer, refused_row_answer
+from pwhash.field import ENCODED, is_encoded
 from pwhash.library import OVER_BUDGET, PASSWORD_TOO_LONG, PASSWORD_ZERO_BYTE, Refusal, Verdict
 from pwhash.lines import (
     LINE_TOO_LONG,
@@ -71,9 +72,12 @@ class Checking:
         self._console = session.console
         self._accounts = Accounts(options.shadow, session.console) if options.shadow else None
         self._memory = Memory()
-        self._new_table = library.memory_of_new_hash(options.policy) if options.rehash else 0
+        self._bytes_for_new_hash = (
+            library.memory_of_new_hash(options.policy) if options.rehash else 0
+        )
         self._first_fields = FirstFields()
         self._with_another_field: List[int] = []  # numbers of lines
+        self._encoded: List[int] = []  # those with a hash in Base64
         self._printed: Set[str] = set()
         self._renewed: Set[bytes] = set()  # the names that have got a new hash
         self._has_bad_line = False
@@ -125,9 +129,14 @@ class Checking:
                 "lines whose name has another field in an earlier line, by which services judge "
                 f"(the first {MAX_NAMED}): {self._with_another_field}."
             )
+        if self._encoded:
+            self._report_encoded("lines", self._encoded)
         accounts = self._accounts
         if accounts is None:
             return
+        if accounts.encoded:
+            shadow = display_name(self._options.shadow or "")
+            self._report_encoded(f"lines of {shadow}", accounts.encoded)
         if accounts.absent:
             shadow = display_name(self._options.shadow or "")
             self._console.say(
@@ -142,6 +151,10 @@ class Checking:
         if accounts.odd:
             self._console.say(f"lines that aren't UTF-8, or have a zero byte: {accounts.odd:,}.")
 
+    def _report_encoded(self, lines: str, numbers: List[int]) -> None:
+        """Names lines with a hash that no password can match before it is decoded."""
+        self._console.say(f"{lines} with {ENCODED}. The first {MAX_NAMED}: {numbers}.")
+
     def _lines(self) -> LineGroups:
         lines = lines_of(self._source)
         return lines if self._accounts is None else self._accounts.lines_to_check(lines)
@@ -155,9 +168,13 @@ class Checking:
                 self._note_field(answer.line)
 
     def _note_field(self, line: Line) -> None:
-        """Notes a line whose name has another field in an earlier line."""
+        """Notes a hash in Base64, and a name that has another field in an earlier line."""
         fields = fields_to_check(line.data)
-        if fields is None or len(self._with_another_field) == MAX_NAMED:
+        if fields is None:
+            return
+        if len(self._encoded) < MAX_NAMED and is_encoded(fields.stored):
+            self._encoded.append(line.number)
+        if len(self._with_another_field) == MAX_NAMED:
             return
         if self._first_fields.is_another(fields.name, fields.stored, line.number):
             self._with_another_field.append(line.number)
@@ -195,17 +212,17 @@ class Checking:
             return verdict
         if verdict is not Verdict.MATCH or not is_outdated:
             return CheckResult(verdict)
-        with self._memory.reserved(self._new_table):
+        with self._memory.reserved(self._bytes_for_new_hash):
             new_hash = library.new_hash(policy, fields.password)
         return new_hash if isinstance(new_hash, Refusal) else CheckResult(verdict, new_hash)
 
     def _verdict(self, fields: FieldsToCheck) -> Union[Verdict, Refusal]:
         """Checks a password, once there is memory for that."""
         budget = self._options.policy.budget
-        table = library.memory(fields.stored)
-        if table > budget:  # the library refuses this, and takes no memory
-            table = 0
-        with self._memory.reserved(table):
+        needed = library.memory(fields.stored)
+        if needed > budget:  # the library refuses this, and takes no memory
+            needed = 0
+        with self._memory.reserved(needed):
             return library.verify(fields.password, fields.stored, budget)
 
     def _has_budget_for_both(self, fields: FieldsToCheck) -> bool:
@@ -232,6 +249,8 @@ class Checking:
         if refusal in PASSWORD_REFUSALS:
             return f"line {line.number} isn't tried: {refusal.message}"
         fields = fields_to_check(line.data)
+        # A password longer than this costs too much with a hash as costly as a new one, but may be
+        # within the budget for names with cheaper hashes.
         longest = self._options.policy.longest or 0
         if refusal == OVER_BUDGET and fields is not None and len(fields.password) > longest:
             return f"line {line.number} isn't tried for every name: {refusal.message}"

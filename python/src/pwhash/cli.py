@@ -79,6 +79,7 @@ USER_NAME = re.compile("[A-Za-z_][A-Za-z0-9_.@-]{0,63}")
 MODE = re.compile("0?[0-7]{3}")
 MAX_MODE = 0o644
 CONTROL_CHARACTER = re.compile("[\0-\x1f\x7f-\x9f]")
+# A name that a line can begin with: services skip a line that begins with # as a comment.
 NAME_OF_LINE = re.compile("[^:#\\0-\\x1f\\x7f][^:\\0-\\x1f\\x7f]*")
 OPTION_NAME = re.compile("--[a-z-]+")
 END_OF_OPTIONS = "--"
@@ -146,12 +147,12 @@ class Formatter(argparse.HelpFormatter):
     """Formats help. argparse's own formatter would import shutil to find the width."""
 
     def __init__(self, prog: str) -> None:
-        super().__init__(prog, width=help_columns() - 2)
+        super().__init__(prog, width=help_columns() - 2)  # as argparse leaves two columns free
 
 
 @functools.lru_cache(maxsize=None)
 def help_columns() -> int:
-    """Returns the width of help texts, in columns."""
+    """Returns the width of help texts, in columns: COLUMNS if sensible, else the terminal's."""
     columns = os.environ.get("COLUMNS", "")
     if columns.isascii() and columns.isdecimal() and 20 <= int(columns) < 1000:
         return int(columns)
@@ -405,11 +406,12 @@ def set_options(parser: Parser, parsed: argparse.Namespace) -> Options:
         raise parser.usage_error(
             "name a password file and whose line to change: pwhash set FILE NAME"
         )
-    refuse_unfit_name(parser, parsed.name)
+    name = os.fsencode(parsed.name)
+    refuse_unfit_name(parser, name)
     return SetOptions(
         policy=read_policy(parser, parsed),
         path=parsed.file,
-        name=os.fsencode(parsed.name),
+        name=name,
         action=read_action(parser, parsed),
         service=Service(parsed.service) if parsed.service else None,
         generate=parsed.generate,
@@ -420,19 +422,26 @@ def set_options(parser: Parser, parsed: argparse.Namespace) -> Options:
 
 def read_action(parser: Parser, parsed: argparse.Namespace) -> Action:
     """Returns what to do to the line. Refuses two actions at once."""
-    chosen = [each for each in Action if getattr(parsed, each.name.lower(), False)]
-    if len(chosen) + parsed.generate > 1:
+    options = {
+        Action.DELETE: parsed.delete,
+        Action.LOCK: parsed.lock,
+        Action.UNLOCK: parsed.unlock,
+    }
+    chosen = [action for action, is_given in options.items() if is_given]
+    if len(chosen) > 1 or (chosen and parsed.generate):
         raise parser.usage_error("give one of --generate, --delete, --lock and --unlock")
     return chosen[0] if chosen else Action.PASSWORD
 
 
-def refuse_unfit_name(parser: Parser, name: str) -> None:
+def refuse_unfit_name(parser: Parser, name: bytes) -> None:
     """Refuses a name with which no line can begin, or that services skip as a comment."""
-    if ":" in name:
+    if b":" in name:
         raise parser.usage_error("NAME has a colon in it, with which names end in password files")
-    if CONTROL_CHARACTER.search(name):
+    # Not the argument itself: where the locale isn't of UTF-8, half a letter looks like a control
+    # character there.
+    if CONTROL_CHARACTER.search(name.decode(errors="replace")):
         raise parser.usage_error("NAME has a control character in it")
-    if name.startswith("#"):
+    if name.startswith(b"#"):
         raise parser.usage_error("NAME begins with a #, as comments do")
 
 
@@ -645,9 +654,9 @@ def read_judging_policy(parser: Parser, parsed: argparse.Namespace) -> Policy:
 
     A budget of 0, or none, stands for the library's own.
     """
-    read_limit(parser, parsed)
-    own_budget = min(parsed.budget or 0, library.MAX_BUDGET)
-    return Policy(parsed.method, parsed.rounds or 0, own_budget, None, None)
+    read_limit(parser, parsed)  # only to refuse rounds that the method can't have
+    budget = min(parsed.budget or 0, library.MAX_BUDGET)
+    return Policy(parsed.method, parsed.rounds or 0, budget, None, None)
 
 
 def read_limit(parser: Parser, parsed: argparse.Namespace) -> library.Limit:
@@ -692,7 +701,7 @@ def refuse_out(parser: Parser, out: Optional[str]) -> None:
             "-o - would write a file: leave it out for standard output, or name ./-"
         )
     if out is not None and os.path.lexists(out):
-        remedy = ", or remove it" if os.path.isfile(out) else ""  # but never a device
+        remedy = ", or remove it" if os.path.isfile(out) else ""  # nobody should remove a device
         raise parser.usage_error(
             f"{display_name(out)} already exists: name another file after -o{remedy}"
         )
@@ -733,15 +742,15 @@ def refuse_lists(parser: Parser, parsed: argparse.Namespace) -> None:
         )
     if parsed.passwords == STDIN:
         raise parser.usage_error("--passwords - would write a file: name another, or ./-")
-    of_out = [parsed.out, part_of(parsed.out), part_of(parsed.out) + ".options"]
-    if os.path.realpath(parsed.passwords) in [os.path.realpath(each) for each in of_out]:
+    files_of_out = [parsed.out, part_of(parsed.out), part_of(parsed.out) + ".options"]
+    if os.path.realpath(parsed.passwords) in [os.path.realpath(each) for each in files_of_out]:
         raise parser.usage_error("-o and --passwords need two different files")
     if os.path.lexists(parsed.passwords) and not parsed.resume:
         raise parser.usage_error(describe_existing_list(parsed))
 
 
 def describe_existing_list(parsed: argparse.Namespace) -> str:
-    """Describes a LIST that already exists. Beside OUT.part, an earlier run may have made it."""
+    """Describes a LIST that already exists. If OUT.part does too, both may be an earlier run's."""
     name, part = display_name(parsed.passwords), part_of(parsed.out)
     if os.path.lexists(part):
         return (

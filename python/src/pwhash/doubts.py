@@ -5,12 +5,14 @@ from __future__ import annotations
 import re
 import unicodedata
 from collections.abc import Iterator
-from typing import List, Optional
+from typing import FrozenSet, List
 
 from pwhash import exports, headings
+from pwhash.field import is_encoded
 from pwhash.lines import BYTE_ORDER_MARK, Line
 from pwhash.names import FirstLines
-from pwhash.options import Service
+from pwhash.options import FileOptions, Service
+from pwhash.superuser import superuser_names
 from pwhash.text import DECOMPOSED, is_utf8, is_visible
 
 SEPARATOR = re.compile(rb"[,;\t| ]")
@@ -22,8 +24,8 @@ TOO_LONG_FOR_CRYPT = (
     "more than 511 bytes, and no login by PAM or crypt(3) takes as many, as those of sshd and nginx"
 )
 
-# The names that each service reads as they are. It takes any other name for somebody else's, as
-# Apache does with a leading blank, or skips the line, as it does after a leading #.
+# The names that each service reads as they are. A service takes any other name for somebody else's,
+# as Apache does with a leading blank, or skips the line, as Apache does after a leading #.
 WEB_SERVER_NAME = rb"[^#\s\0-\x1f\x7f][^\0-\x1f\x7f]*"
 SERVICE_NAMES = {
     Service.APACHE: re.compile(WEB_SERVER_NAME),
@@ -42,11 +44,14 @@ NOT_UTF8 = (
 class Doubts:
     """Finds doubts about lines, in the order of the file, and remembers their names."""
 
-    def __init__(self, service: Optional[Service], is_table: bool, windows: bool) -> None:
-        self._service_name = SERVICE_NAMES[service] if service else None
-        self._is_table = is_table
-        self._windows = windows
+    def __init__(self, options: FileOptions) -> None:
+        self._service_name = SERVICE_NAMES[options.service] if options.service else None
+        self._is_table = options.input.columns is not None
+        self._windows = options.input.windows
         self._names = FirstLines()
+        # A table, or a list of names that get new passwords, is of people such as pupils.
+        is_of_people = self._is_table or options.generate is not None
+        self._superusers: FrozenSet[bytes] = superuser_names() if is_of_people else frozenset()
 
     def find(self, line: Line) -> List[str]:
         """Returns all doubts about a line that mkpasswd accepts."""
@@ -62,6 +67,8 @@ class Doubts:
             found += find_signs_of_table(line.data, name, password)
         else:
             found += find_signs_of_wrong_columns(name, self._service_name is not None)
+        if name in self._superusers:
+            found.append("the superuser: whoever has this password could change everything")
         if self._service_name and not self._service_name.fullmatch(name):
             found.append("the service takes the name for another, or skips it")
         again = self._names.check(name, line.number, bool(found))
@@ -80,6 +87,7 @@ def find_marks(data: bytes, password: bytes, windows: bool) -> Iterator[str]:
         yield "an empty password: Return alone logs in"
     if password.endswith(b"\r") and not windows:
         yield "a carriage return ends the password; --windows leaves it out"
+    # Without --windows the last character was reported above.
     if b"\r" in (data if windows else data[:-1]):
         yield "a carriage return inside"
     if data.startswith(BYTE_ORDER_MARK):
@@ -118,7 +126,7 @@ def find_odd_fields(name: bytes, password: bytes, is_table: bool) -> Iterator[st
         yield "a heading at the end: was a list joined without a line feed before it?"
     if exports.is_damaged(name, is_table) or exports.is_damaged(password, is_table):
         yield "an error or a changed value of a spreadsheet or another export"
-    if exports.is_stored(password):
+    if exports.is_stored(password) or is_encoded(password):
         yield "a stored hash or field, not a password"
     if exports.is_digest(password):
         yield "a digest, as databases store it in place of a password"

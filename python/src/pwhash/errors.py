@@ -8,8 +8,12 @@ import errno
 import os
 from collections.abc import Iterator
 
-# The limits that a user can raise, by the errors of the system that they cause.
-LIMITS = {errno.EMFILE: " (ulimit -n)", errno.EFBIG: " (ulimit -f)"}
+# What a user can change or look at, by the errors of the system.
+HINTS = {
+    errno.EMFILE: " (ulimit -n)",
+    errno.EFBIG: " (ulimit -f)",
+    errno.EPERM: " (append-only or immutable? See lsattr)",
+}
 
 
 class Status(enum.IntEnum):
@@ -50,7 +54,7 @@ class ProblemsFound(Stop):
 def reason_of(error: OSError) -> str:
     """Describes an error of the system, without the name of the file."""
     number = error.errno or 0
-    return f"{os.strerror(number)}{LIMITS.get(number, '')}"
+    return f"{os.strerror(number)}{HINTS.get(number, '')}"
 
 
 @contextlib.contextmanager

@@ -11,10 +11,11 @@ import enum
 import errno
 import os
 import re
-from typing import List, NamedTuple
+import stat
+from typing import ContextManager, List, NamedTuple, Optional
 
 from pwhash import system
-from pwhash.errors import Stop
+from pwhash.errors import Stop, errors_named
 from pwhash.place import Place
 
 # Each exchange after the first is needed only if somebody changed the file between two calls.
@@ -136,27 +137,57 @@ def version(status: os.stat_result) -> "tuple[int, ...]":
 
 def end_earlier_exchange(place: Place) -> None:
     """Ends the exchange of a process that was killed."""
+    refuse_obstacles(place)
+    pair = read_note(place)
+    if pair is None:  # so the new file was never in place
+        with errors_of_new(place), contextlib.suppress(FileNotFoundError):
+            os.unlink(place.new, dir_fd=place.folder)
+        return
+    put_back(place, pair)
+    with errors_of_new(place):
+        remove_own_file(place, pair)
+    with errors_named(f"{place.display_name}.mkpasswd.exchange"):
+        os.unlink(place.note, dir_fd=place.folder)
+
+
+def errors_of_new(place: Place) -> ContextManager[None]:
+    """Turns an error of the system in the block into a Stop that names the new file."""
+    return errors_named(f"{place.display_name}.mkpasswd.new")
+
+
+def refuse_obstacles(place: Place) -> None:
+    """Refuses a folder where the new file has to be, and what isn't a link where the note has to.
+
+    Called before pwhash asks for a password, too, and then without the lock.
+    """
+    new, note = place.status_of(place.new), place.status_of(place.note)
+    if new is not None and stat.S_ISDIR(new.st_mode):
+        raise Stop(
+            f"{place.display_name}.mkpasswd.new is a folder, where the new version of the file has "
+            "to be. Look at it, and move or remove it."
+        )
+    if note is not None and not stat.S_ISLNK(note.st_mode):
+        raise strange_note_error(place)
+
+
+def read_note(place: Place) -> Optional[Pair]:
+    """Returns the two inodes in the note, or None if there is no note."""
     try:
         note = os.readlink(place.note, dir_fd=place.folder)
     except FileNotFoundError:
-        with contextlib.suppress(FileNotFoundError):  # without a note it was never in place
-            os.unlink(place.new, dir_fd=place.folder)
-        return
-    pair = read_note(place, note)
-    put_back(place, pair)
-    remove_own_file(place, pair)
-    os.unlink(place.note, dir_fd=place.folder)
-
-
-def read_note(place: Place, note: str) -> Pair:
-    """Returns the two inodes in a note."""
+        return None
     found = NOTE.fullmatch(note)
     if found is None:
-        raise Stop(
-            f"{place.display_name}.mkpasswd.exchange isn't a link that pwhash or pam_mkpasswd "
-            "made. Look at it, and remove it."
-        )
+        raise strange_note_error(place)
     return Pair(int(found[1]), int(found[2]))
+
+
+def strange_note_error(place: Place) -> Stop:
+    """Returns the error for a note that isn't one."""
+    return Stop(
+        f"{place.display_name}.mkpasswd.exchange isn't a link that pwhash or pam_mkpasswd made. "
+        "Look at it, and remove it."
+    )
 
 
 def put_back(place: Place, pair: Pair) -> None:

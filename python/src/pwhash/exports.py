@@ -23,6 +23,7 @@ ERROR = re.compile(r"#[\u00a1\u00bf]?([^\W\d_][\w/]+)[!?]")
 ERROR_WITHOUT_MARK = re.compile(
     "#(?:N/A|N/D|N/B|NV|I/T|\u041d/\u0414|YOK|HI\u00c1NYZIK|GETTING_DATA)|(?:Err|Fehler):[0-9]{3}"
 )
+# How spreadsheets write true and false, in many languages.
 TRUTHS = frozenset(
     [
         *("TRUE", "FALSE", "WAHR", "FALSCH", "VRAI", "FAUX", "VERDADERO", "FALSO", "VERDADEIRO"),

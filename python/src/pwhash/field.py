@@ -6,6 +6,7 @@ the prefix.
 
 from __future__ import annotations
 
+import binascii
 import re
 from typing import NamedTuple, Optional
 
@@ -20,7 +21,7 @@ PREFIXES = {
     "sha256crypt": b"{SHA256-CRYPT}",
     "md5crypt": b"{MD5-CRYPT}",
 }
-# Any of them at the beginning of a field, in capital or small letters.
+# Any of these prefixes at the beginning of a field, in capital or small letters.
 FOR_CRYPT = re.compile(
     rb"(?i)\A(?:" + b"|".join(map(re.escape, (ANY_METHOD, *PREFIXES.values()))) + rb")"
 )
@@ -30,7 +31,8 @@ OF_OTHER_SCHEMES = re.compile(
     rb"(?i)\{(?:S?MD5|S?SHA(?:256|384|512)?|BLF-CRYPT|ARGON2(?:I|ID)?|PBKDF2(?:-SHA(?:256|512))?"
     rb"|SCRAM-SHA-(?:1|256))\}"
 )
-# The prefixes of digests in Base64, most of them with a salt behind the digest, and their bytes.
+# The prefixes of digests in Base64, most of them with a salt behind the digest, and how many bytes
+# each digest has.
 OF_DIGESTS = re.compile(rb"(?i)\{(S?)(MD5|SHA|SHA256|SHA384|SHA512)\}")
 DIGEST_BYTES = {b"MD5": 16, b"SHA": 20, b"SHA256": 32, b"SHA384": 48, b"SHA512": 64}
 BASE64 = re.compile(rb"([A-Za-z0-9+/]*)={0,2}")
@@ -50,6 +52,7 @@ OF_OTHER_METHODS = re.compile(
     rb"|\$[PH]\$[./0-9A-Za-z]{31}"  # phpass
     rb"|\$pbkdf2(?:-sha(?:256|512))?\$[0-9]+\$[./0-9A-Za-z]+\$[./0-9A-Za-z]+"  # passlib's
 )
+ENCODED = "a hash in Base64, as LDIF writes it: decode it first (base64 -d)"
 # The states of whole hashes: neither a plain password nor a damaged hash.
 HASHES = (
     mkpasswd.State.CURRENT,
@@ -57,7 +60,7 @@ HASHES = (
     mkpasswd.State.OVER_BUDGET,
     mkpasswd.State.UNKNOWN,
 )
-# Those of damaged hashes, which services treat as hashes.
+# The states of damaged hashes, which services treat as hashes.
 DAMAGED = (mkpasswd.State.DEAD, mkpasswd.State.MALFORMED)
 
 
@@ -157,6 +160,29 @@ def field_of(data: bytes) -> Field:
     found = FORM.fullmatch(data)
     assert found is not None  # each part may be empty
     return Field(*found.groups())
+
+
+def is_encoded(stored: bytes) -> bool:
+    """Whether this is the Base64 of a field with a prefix such as {SSHA}, or begins like that.
+
+    LDIF writes values in Base64, and continues long ones on the next line.
+    """
+    found = BASE64.fullmatch(stored)
+    if found is None:
+        return False
+    whole = len(found[1]) // 4 * 4  # four characters stand for three bytes
+    decoded = field_of(binascii.a2b_base64(found[1][:whole]))
+    return decoded.has_known_prefix and bool(decoded.stored)
+
+
+def encoded_value(rest: bytes) -> bytes:
+    """Returns the Base64 of a field in what follows a name and its colon, or nothing.
+
+    LDIF has a second colon and a blank in front of it, as in userPassword:: e1NTSEF9..
+    """
+    first, _, others = rest.partition(b":")
+    value = first or others.strip()
+    return value if is_encoded(value) else b""
 
 
 def without_prefix(field: bytes) -> bytes:

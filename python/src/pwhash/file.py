@@ -103,10 +103,9 @@ class Hashing:
         self._locked = locked
         self._console = session.console
         self._memory = Memory()
-        self._table = library.memory_of_new_hash(options.policy)
+        self._bytes_for_hash = library.memory_of_new_hash(options.policy)
         self._part: Optional[Part] = None
-        is_table = options.input.columns is not None
-        self._doubts = Doubts(options.service, is_table, options.input.windows)
+        self._doubts = Doubts(options)
 
     def hash_into(self, part: Part, groups: LineGroups) -> None:
         """Hashes lines into a part."""
@@ -157,7 +156,7 @@ class Hashing:
         if refusal is not None:
             return refusal_answer(line, refusal)
         name = name_of(line)
-        with self._memory.reserved(self._table):
+        with self._memory.reserved(self._bytes_for_hash):
             new_hash = library.new_hash(self._options.policy, line.data[len(name) + 1 :])
         if isinstance(new_hash, Refusal):
             return refusal_answer(line, new_hash)

@@ -7,6 +7,9 @@ from typing import Dict, NamedTuple, Optional, Union
 
 import mkpasswd
 
+from pwhash import field
+
+# Colours of text in a terminal, as in the sequence ESC [ 31 m.
 RED, YELLOW, CYAN, GREEN, PLAIN = 31, 33, 36, 32, 0
 
 # Schemes that mkpasswd can't judge, but that are no problem.
@@ -14,7 +17,7 @@ FINE_SCHEMES = frozenset(["yescrypt", "gost-yescrypt", "bcrypt"])
 
 
 class Finding(enum.Enum):
-    """The findings, worst first: the word, its colour, and what to do."""
+    """The findings, worst first. Each has a word, the word's colour, and what to do."""
 
     NO_PASSWORD = (
         "no password",
@@ -41,6 +44,7 @@ class Finding(enum.Enum):
         RED,
         "a password stored as it is, or a damaged hash: set a new password",
     )
+    ENCODED = ("encoded", YELLOW, field.ENCODED)
     REFUSED = ("refused", YELLOW, "no line of an account: correct or remove it")
     UNKNOWN = (
         "unknown",
@@ -116,13 +120,25 @@ def judge(
 
 def judge_refused_line(number: int, message: str) -> Judgement:
     """Returns the judgement on a line that isn't an account's."""
+    return judge_without_hash(number, f"line {number}", Finding.REFUSED, message)
+
+
+def judge_encoded(number: int, name: str) -> Judgement:
+    """Returns the judgement on a hash in Base64."""
+    return judge_without_hash(number, name, Finding.ENCODED, None)
+
+
+def judge_without_hash(
+    number: int, name: str, finding: Finding, message: Optional[str]
+) -> Judgement:
+    """Returns the judgement on a line in which there is no hash to describe."""
     return Judgement(
         line=number,
-        name=f"line {number}",
+        name=name,
         method=None,
         rounds=None,
         cost=None,
-        finding=Finding.REFUSED,
+        finding=finding,
         message=message,
         problem=True,
     )

@@ -23,7 +23,7 @@ from pwhash.text import display_name
 SUPERUSER = 0
 WRITABLE_BY_OTHERS = stat.S_IWGRP | stat.S_IWOTH
 ACL = "system.posix_acl_access"
-MAX_LINKS = 40  # one inside another, as in the kernel
+MAX_LINKS = 40  # nested in one another; the kernel follows as many in a whole path
 # With O_PATH, a folder that can't be listed can be opened too. With O_NOFOLLOW added, a link is
 # opened itself.
 STEP = os.O_PATH | os.O_NOFOLLOW | os.O_CLOEXEC
@@ -139,7 +139,7 @@ def refuse_untrusted_link(folder: int, name: str, status: os.stat_result, rule: 
 
 
 def refuse_untrusted(folder: int, rule: Rule) -> None:
-    """Refuses a folder in which others can exchange a file, or which they can exchange itself."""
+    """Refuses a folder if others can exchange a file in it, or the folder itself."""
     with errors_named(f"{rule.file_name}, a folder above it"):
         for number, each in enumerate(folders_upwards(folder)):
             refuse_untrusted_folder(each, rule, is_own=number == 0)
@@ -150,6 +150,7 @@ def folders_upwards(folder: int) -> Iterator[int]:
     descriptor = os.dup(folder)
     try:
         status, below = os.fstat(descriptor), None
+        # The folder above / is / itself.
         while below is None or not os.path.samestat(status, below):
             yield descriptor
             parent = os.open("..", STEP, dir_fd=descriptor)
@@ -183,7 +184,7 @@ def refuse_untrusted_folder(folder: int, rule: Rule, is_own: bool) -> None:
 
 
 def is_of_one_user(folder: int, status: os.stat_result) -> bool:
-    """Whether only the owner can write a folder that its group can write.
+    """Whether the group that can write a folder has no member but the owner, and others can't.
 
     useradd(8) makes a group for each user, whose only member is that user.
     """
@@ -199,7 +200,10 @@ def is_of_one_user(folder: int, status: os.stat_result) -> bool:
 
 
 def has_acl(folder: int) -> bool:
-    """Whether the rights of a folder's group may be those of others, in an access control list."""
+    """Whether a folder has an ACL, by which others can have the rights of its group.
+
+    Also true if the system doesn't say.
+    """
     try:
         # A descriptor opened with O_PATH can't be asked for attributes.
         return ACL in os.listxattr(f"/proc/self/fd/{folder}")
@@ -229,8 +233,8 @@ def opened_for_new_file(path: str) -> Iterator[FileInFolder]:
 def users_of_run() -> FrozenSet[int]:
     """Returns the superuser, the user who runs pwhash, and the one for whom sudo runs it.
 
-    The latter could have made sudo run anything. In a set-user-ID program, the variable may come
-    from anybody.
+    The latter could have made sudo run anything. In a set-user-ID program, SUDO_UID may come from
+    anybody, so it counts only if all user IDs are the superuser's.
     """
     users = {SUPERUSER, os.geteuid()}
     caller = os.environ.get("SUDO_UID", "")

@@ -29,7 +29,9 @@ from pwhash.text import display_name, is_utf8, is_visible
 PLACEHOLDER = b"x"
 # What begins a formula in a spreadsheet. Some also accept the fullwidth forms of East Asia.
 FORMULA = re.compile("[\\s\ufeff\u200b]*[-=+@\uff1d\uff0b\uff0d\uff20]")
+# A spreadsheet may take each of these for the end of a field, after which a formula can begin.
 BEFORE_FORMULA = re.compile('[,;|"]')
+# Separators of tables, quotes and control characters, which no name in a list may contain.
 IN_NO_LIST = re.compile(rb"[,;|\"\0-\x1f\x7f]")
 LONGEST_FILE_NAME = 255
 

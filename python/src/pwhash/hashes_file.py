@@ -14,7 +14,7 @@ from pwhash import library, system_files
 from pwhash.console import Console
 from pwhash.doubts import SERVICE_NAMES
 from pwhash.errors import ProblemsFound, UsageError, errors_named
-from pwhash.field import Field, field_of, method_of_prefix
+from pwhash.field import ENCODED, Field, field_of, is_encoded, method_of_prefix
 from pwhash.lines import refused_name
 from pwhash.options import InstallOptions, Service
 from pwhash.password_file import read_all
@@ -132,6 +132,8 @@ class HashesFile:
         description = self._policy.describe(field.stored)
         if description.state is mkpasswd.State.UNKNOWN:
             return self._check_other_scheme(field)
+        if is_encoded(field.stored):
+            return ENCODED
         if description.state not in FINE:
             return REASONS[description.state]
         if method_of_prefix(field.prefix) not in (None, description.scheme):
@@ -152,7 +154,7 @@ class HashesFile:
         return None
 
     def _show(self, number: int, line: bytes, reason: str) -> None:
-        kind = re.sub("[0-9]+", "", reason)
+        kind = re.sub("[0-9]+", "", reason)  # the reason, whatever line it names
         self._kind_counts[kind] += 1
         if self._kind_counts[kind] <= MAX_SHOWN:
             name, colon, field = line.partition(b":")

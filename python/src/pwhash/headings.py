@@ -38,6 +38,11 @@ def is_of_passwords(heading: str) -> bool:
     return heading in PASSWORDS or heading in SHORT_PASSWORDS
 
 
+def is_known(field: bytes) -> bool:
+    """Whether a field is a heading of names or passwords."""
+    return fold(field) in NAMES or is_of_passwords(fold(field))
+
+
 def is_heading_of_names(field: bytes) -> bool:
     """Whether a name is the heading of a column of names or of passwords."""
     return fold(field) in NAMES or fold(field) in PASSWORDS

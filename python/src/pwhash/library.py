@@ -16,6 +16,7 @@ from mkpasswd._library import PASSWORD_LIMIT, Answer, Numbers
 from pwhash.errors import Stop
 
 METHODS = ("sha512crypt", "sha256crypt", "md5crypt", "scrypt")
+LONGEST_PASSWORD = PASSWORD_LIMIT  # in bytes
 LENGTH_OF_LIMITS = 64  # of the password whose cost sets the library's own limits
 MAX_ROUNDS, MAX_BUDGET = 2**32 - 1, 2**64 - 1
 

@@ -11,7 +11,7 @@ from pwhash import library
 from pwhash.library import Refusal
 
 BYTE_ORDER_MARK = b"\xef\xbb\xbf"
-LONGEST_LINE, LONGEST_NAME = 2048, 64
+LONGEST_LINE, LONGEST_NAME = 2048, 64  # bytes
 
 LINE_TOO_LONG = Refusal("line too long")
 NO_NAME = Refusal("no name")

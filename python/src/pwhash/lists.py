@@ -41,15 +41,12 @@ class ListWriter:
 
     def make_folder(self) -> None:
         """Creates the folder for several lists."""
-        before = os.umask(0o777 & ~FOLDER_MODE)
         try:
             os.mkdir(self._target.name, FOLDER_MODE, dir_fd=self._target.folder)
         except FileExistsError:
             raise exists_error(self._target) from None
         except OSError as error:
             raise Stop(f"{self._target.display_name}: {reason_of(error)}.") from None
-        finally:
-            os.umask(before)
         self._folder = open_own_folder(self._target)
         sync_folder_of(self._target)
 
@@ -99,7 +96,7 @@ def refuse_folder(path: str) -> None:
 
 
 def open_own_folder(target: FileInFolder) -> int:
-    """Opens the folder of several lists. Refuses one that no run of this user has created."""
+    """Opens the folder of several lists. Refuses one that can't be from a run of this user."""
     with errors_named(target.display_name):
         status = target.status()
         if status is None or not is_own_folder(status):
@@ -121,7 +118,7 @@ def file_in(target: FileInFolder, folder: int, name: str) -> FileInFolder:
 
 
 def identity(status: os.stat_result) -> bytes:
-    """Returns what is different for a list that was edited, and for another file."""
+    """Returns the size, time and inode of a list, which change if it is edited or replaced."""
     return b"%d,%d,%d" % (status.st_size, status.st_mtime_ns, status.st_ino)
 
 

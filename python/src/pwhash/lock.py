@@ -9,6 +9,7 @@ from __future__ import annotations
 import contextlib
 import fcntl
 import os
+import stat
 import time
 from collections.abc import Iterator
 from typing import NamedTuple, Optional
@@ -16,7 +17,7 @@ from typing import NamedTuple, Optional
 from pwhash.errors import Stop, errors_named
 from pwhash.place import Place
 
-SECONDS = 10.0
+MAX_WAIT_SECONDS = 10.0
 PAUSE_SECONDS = 0.02
 OWN_MODE = 0o600
 # If a FIFO has the lock's name, O_NONBLOCK keeps the call from waiting.
@@ -44,7 +45,13 @@ def hold_lock(place: Place, owner: Owner) -> Iterator[None]:
 
 def wait_for_lock(place: Place, owner: Owner) -> int:
     """Waits for the lock, and returns its descriptor."""
-    end = time.monotonic() + SECONDS
+    found = place.status_of(place.lock)
+    if found is not None and stat.S_ISLNK(found.st_mode):
+        raise Stop(
+            f"{place.display_name}.mkpasswd.lock is a symbolic link, which pwhash never makes. "
+            "Look at it, and remove it."
+        )
+    end = time.monotonic() + MAX_WAIT_SECONDS
     lock = try_once(place, owner)
     while lock is None:
         if time.monotonic() > end:
@@ -84,7 +91,7 @@ def open_lock(place: Place, owner: Owner) -> int:
     except FileExistsError:  # another process has just created it
         return os.open(place.lock, FLAGS, dir_fd=place.folder)
     # A service of that user can then take the lock even if the superuser was the first to change
-    # the file. Only the superuser can do this, and nobody else needs to.
+    # the password file. Only the superuser can give the lock away, and nobody else needs to.
     with contextlib.suppress(OSError):
         os.fchown(lock, owner.user, owner.group)
     return lock

@@ -1,7 +1,7 @@
 """Leaves out lines whose names are locked in a file such as /etc/shadow.
 
 chpasswd -e would silently unlock them. A name with only a ! there, as useradd writes it, has never
-had a password, so it isn't left out.
+had a password, so it isn't left out. But useradd never makes the superuser: there a ! is a lock.
 """
 
 from __future__ import annotations
@@ -15,7 +15,8 @@ from pwhash.field import field_of
 from pwhash.lines import Line, name_of
 from pwhash.skipping import Skipping
 from pwhash.source import Source
-from pwhash.stored import stored_in
+from pwhash.stored import Stored, stored_in
+from pwhash.superuser import superuser_names
 
 NO_PASSWORD_YET = (b"!", b"!!")  # the latter on Red Hat's systems
 IN_SHADOW = b"x"  # the field of every name in /etc/passwd
@@ -27,6 +28,7 @@ class Locked(Skipping):
     def __init__(self, path: str, source: Source, console: Console, shows_all: bool) -> None:
         super().__init__(path, source, console, shows_all)
         self._can_be_read_again = os.path.isfile(path)
+        self._superusers = superuser_names()
         self._names = self._read()
 
     @property
@@ -57,11 +59,15 @@ class Locked(Skipping):
         names: Set[bytes] = set()
         for stored in stored_in(self.path, self.console):
             has_fields = has_fields or stored.field != IN_SHADOW
-            is_locked = field_of(stored.field).is_surely_locked
-            if is_locked and stored.field not in NO_PASSWORD_YET:
+            if self._is_locked(stored):
                 names.add(stored.name)
         if not has_fields:
             raise UsageError(
                 f"{self.file} only says x, as /etc/passwd does: give --skip-locked /etc/shadow."
             )
         return names
+
+    def _is_locked(self, stored: Stored) -> bool:
+        """Whether a field keeps its name out, and isn't that of a new account."""
+        is_new = stored.field in NO_PASSWORD_YET and stored.name not in self._superusers
+        return field_of(stored.field).is_surely_locked and not is_new

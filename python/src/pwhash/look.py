@@ -4,7 +4,7 @@ from __future__ import annotations
 
 import re
 from collections import Counter
-from typing import List, Set
+from typing import Dict, List, Set
 
 from pwhash import library
 from pwhash.console import Console
@@ -27,11 +27,10 @@ class Look:
         self._source = source
         self._options = options
         self._console = console
-        is_table = options.input.columns is not None
-        self._doubts = Doubts(options.service, is_table, options.input.windows)
+        self._doubts = Doubts(options)
         self._counts: Counter[str] = Counter()
         self._hidden = 0  # problems that aren't shown
-        self._has_lines = False  # after --skip-locked and --skip-unknown
+        self._has_lines = False  # whether --skip-locked and --skip-unknown leave any
         self._refused: Set[int] = set()
         self._doubtful: Set[int] = set()
 
@@ -53,7 +52,8 @@ class Look:
             self._refused |= self._doubtful
         if self._refused:
             count = len(self._refused)
-            self._console.say(f"lines left out: {count:,}; all others can be hashed.")
+            others = "can be" if self._options.only_look else "are"
+            self._console.say(f"lines left out: {count:,}; all others {others} hashed.")
         return self._refused
 
     def _look_at(self, line: Line) -> None:
@@ -77,13 +77,13 @@ class Look:
             self._show(line, [reason], self._options.skip_refused)
 
     def _show(self, line: Line, reasons: List[str], is_left_out: bool) -> None:
-        """Shows the problems of a line, however many there are if the line is left out."""
+        """Shows the problems of a line: all if it is left out, and else MAX_SHOWN of each kind."""
         # Without a colon, or in a refused row, what stands first may be a password.
         is_named = b":" in line.data and line.refused_row is None
         name = name_of(line) if is_named else b""
         where = shown_line(self._source.name, line.number, name)
         for reason in reasons:
-            kind = re.sub("[0-9]+", "", reason)
+            kind = re.sub("[0-9]+", "", reason)  # the reason, whatever line it names
             self._counts[kind] += 1
             if self._counts[kind] > 1:  # the first message of a kind says what to do
                 reason = reason.partition(";")[0]
@@ -98,16 +98,26 @@ class Look:
         stops_for_doubtful = doubtful and self._options.doubtful is Doubtful.STOP
         if stops_for_refused or stops_for_doubtful:
             self._say_what_is_hidden()
-            raise ProblemsFound(
-                "nothing was hashed. Correct these lines, or leave them out "
-                f"({refused:,} with --skip-refused, {doubtful:,} with --skip-doubtful), "
-                "or hash all doubtful ones (--accept-doubtful)."
-            )
+            raise ProblemsFound(f"nothing was hashed. Correct these lines, {self._remedies()}.")
+
+    def _remedies(self) -> str:
+        """Says which options leave out these lines, or accept them."""
+        is_undecided = self._doubtful and self._options.doubtful is not Doubtful.ACCEPT
+        counts: Dict[str, int] = {}
+        if self._refused:
+            counts["--skip-refused"] = len(self._refused)
+        if is_undecided:
+            counts["--skip-doubtful"] = len(self._doubtful)
+        options = ", ".join(f"{count:,} with {option}" for option, count in counts.items())
+        accepting = ", or hash all doubtful ones (--accept-doubtful)" if is_undecided else ""
+        return f"or leave them out ({options}){accepting}"
 
     def _say_what_is_hidden(self) -> None:
         """Says how many problems aren't shown, and how to see them."""
         if self._hidden:
+            refused = " --skip-refused" if self._refused else ""
+            doubtful = " --skip-doubtful" if self._doubtful else ""
             self._console.say(
-                f"{self._hidden:,} more like these aren't shown. To see all, add --look "
-                "--skip-refused --skip-doubtful."
+                f"{self._hidden:,} more like these aren't shown. To see all, add --look"
+                f"{refused}{doubtful}."
             )

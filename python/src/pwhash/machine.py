@@ -18,7 +18,7 @@ def processors() -> int:
 
 
 def free_memory() -> int:
-    """Returns how many bytes can be allocated without swapping, within its control groups."""
+    """Returns how many bytes this process can allocate without swapping, by its control groups."""
     available = re.search(r"(?m)^MemAvailable: +([0-9]+) kB$", read_file("/proc/meminfo"))
     free = [free_in_group(folder) for folder in group_folders("memory")]
     known = [amount for amount in free if amount is not None]
@@ -45,8 +45,10 @@ def with_parents(path: str) -> List[str]:
 
 def read_quota(folder: str) -> Optional[int]:
     """Returns how many processors a group may use, rounded up, or None if it has no quota."""
-    quota, period = (read_file(f"{folder}/cpu.max").split() + ["", ""])[:2]
-    if not quota:  # version 1
+    words = read_file(f"{folder}/cpu.max").split()
+    if len(words) == 2:
+        quota, period = words
+    else:  # version 1
         quota = read_file(f"{folder}/cpu.cfs_quota_us").strip()
         period = read_file(f"{folder}/cpu.cfs_period_us").strip()
     if not quota.isdecimal() or not period.isdecimal() or int(period) == 0:  # "max", or -1
@@ -64,6 +66,7 @@ def free_in_group(folder: str) -> Optional[int]:
     if used is None:  # version 1
         used = read_number(f"{folder}/memory.usage_in_bytes") or 0
     statistics = read_file(f"{folder}/memory.stat")
+    # In version 1, total_inactive_file also counts the groups below this one.
     files = re.findall(r"(?m)^(?:total_)?inactive_file ([0-9]+)$", statistics)
     return max(0, min(limits) - used + max(map(int, files), default=0))
 

@@ -36,9 +36,9 @@ class Table:
     def _slot(self, key: int) -> int:
         """Returns the slot of a key, or the free slot where it belongs."""
         last = len(self._keys) - 1
-        slot = key // TABLES & last
+        slot = (key // TABLES) & last  # the remainder of the key has chosen the table
         while self._keys[slot] not in (0, key):
-            slot = slot + 1 & last
+            slot = (slot + 1) & last
         return slot
 
     def _grow(self) -> None:
@@ -60,7 +60,7 @@ class FirstNumbers:
 
     def first(self, name: bytes, number: int) -> int:
         """Returns the first number that came with this name. Stores this one if it's new."""
-        key = hash(name) & HASH_MASK or 1
+        key = (hash(name) & HASH_MASK) or 1  # 0 marks a free slot
         return self._tables[key % TABLES].first(key, number)
 
 

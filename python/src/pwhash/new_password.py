@@ -14,6 +14,7 @@ from pwhash import exports, library
 from pwhash.console import STDIN, Console
 from pwhash.doubts import LONGEST_OF_CRYPT, TOO_LONG_FOR_CRYPT
 from pwhash.errors import UsageError
+from pwhash.field import is_encoded
 from pwhash.library import Policy
 from pwhash.lines import BYTE_ORDER_MARK
 from pwhash.piped import PipedLines
@@ -39,10 +40,10 @@ def read_new_password(policy: Policy, accepts_doubtful: bool, console: Console) 
 def first_line(console: Console) -> bytes:
     """Returns the first line of standard input. Warns if further ones are there already."""
     lines = PipedLines(console)
-    first = lines.next()
+    password = lines.password()
     if lines.next_at_once():
         console.say("only the first line was hashed; pwhash file hashes lines name:password.")
-    return first or b""
+    return password
 
 
 def refuse_doubtful(policy: Policy, password: bytes, is_typed: bool) -> None:
@@ -75,7 +76,8 @@ def find_stored(password: bytes) -> Optional[str]:
     """Recognizes a stored hash, or a line with one, in place of a password."""
     behind_name = password.partition(b":")[2]
     is_line = behind_name.startswith(b"$") and exports.is_stored(behind_name)
-    if not is_line and not exports.is_stored(password):
+    is_field = exports.is_stored(password) or is_encoded(password)
+    if not is_line and not is_field:
         return None
     return (
         "the password is a stored hash, or a field of a password file. Give the password that the "

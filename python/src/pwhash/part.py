@@ -25,6 +25,7 @@ from pwhash.text import shell_quoted
 
 # The errors of a file system without links, or a machine without /proc.
 NO_LINKS = (errno.EPERM, errno.EOPNOTSUPP, errno.ENOSYS, errno.EMLINK, errno.EXDEV, errno.ENOENT)
+# The errors of a file system, or a kernel, that has no rename which never replaces a file.
 NO_SUCH_RENAME = (errno.EINVAL, errno.ENOSYS)
 
 
@@ -56,9 +57,10 @@ class Part:
         if lists is None and options.generate is not None and before is not None:
             saved_lists = before.lists
         now = resume_state.current_state(options, self._source, saved_lists)
-        if before is not None and (os.fstat(self.fd).st_size or before == now):
+        has_lines = os.fstat(self.fd).st_size > 0
+        if before is not None and (has_lines or before == now):
             return
-        if before is not None:  # it is from a run whose part was removed
+        if before is not None:  # the state is from a run whose part was removed
             resume_state.remove(self.file)
         resume_state.write(self.file, now)
 
@@ -97,7 +99,10 @@ class Part:
         return describe_change(self._source, self) or ""
 
     def _become_out(self) -> None:
-        """Links the open file as OUT, not what now has its name. If it can't, renames the part."""
+        """Links the open file as OUT, or renames the part if links don't work.
+
+        A link is sure to be of the open file, whatever has the part's name by now.
+        """
         try:
             link = f"/proc/self/fd/{self.fd}"
             # Only linkat follows the link, and Python calls it only if a folder is given.
@@ -192,7 +197,7 @@ def opened_part(
     """Opens OUT.part in an open folder."""
     file = out.beside(PART_SUFFIX)
     if options is not None:
-        resume_state.read(file)  # this refuses another file of that name before a part is made
+        resume_state.read(file)  # refuses a strange OUT.part.options before a part is made
     fd = open_part(file, source, options)
     try:
         yield Part(out, fd, source, options is not None)
@@ -282,7 +287,7 @@ def refuse_another_file(
     before, now = resume_state.read(file), resume_state.current_state(options, source)
     name, name_of_state = file.display_name, resume_state.state_file(file).display_name
     both = f"{name} and {name_of_state}"
-    if before is None:  # it is GNU parallel's, for example: only the times can be compared
+    if before is None:  # the part is GNU parallel's, for example: only the times can be compared
         refuse_newer(file, status, source)
         before = ResumeState(now.file, b"", now.choice, b"")
     if before == resume_state.INCOMPLETE:

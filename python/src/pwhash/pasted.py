@@ -1,7 +1,8 @@
 """Finds the hash in what somebody pastes: a bare hash, or the line of a file that it stands in.
 
-No hash has blanks in it, so those that an e-mail puts between its parts can be left out. What isn't
-plain to tell stays as it was pasted, and is refused then: pwhash never guesses which hash is meant.
+No hash has blanks in it, so those that an e-mail puts between its parts can be left out. If it
+isn't clear where a hash begins, the second field of the line is taken, as in a password file, and
+pwhash verify refuses that unless it is a hash: pwhash never guesses which hash is meant.
 """
 
 from __future__ import annotations
@@ -14,14 +15,15 @@ from mkpasswd import State
 from pwhash import library
 from pwhash.console import Console
 from pwhash.errors import UsageError
-from pwhash.field import without_prefix
+from pwhash.field import encoded_value, without_prefix
 from pwhash.piped import PipedLines
 from pwhash.prompt import Ask
 
 PASSWORD_PROMPT, HASH_PROMPT = b"Password: ", b"Hash (not shown either): "
 REST_PROMPT = b"It isn't whole. The rest, or just Return: "
-MAX_PASTED = 4096  # bytes of a line with a hash; the longest hash has 144
+MAX_PASTED = 4096  # bytes of the lines with a hash; the longest hash has 144
 SECONDS_FOR_REST = 5  # that a pipe may take to bring the rest of a hash
+# Characters that nobody sees in what was pasted, such as a soft hyphen or a byte order mark.
 SHOWS_NOTHING = {ord(each): None for each in "\u00ad\u200b\u200c\u200d\u2060\ufeff"}
 # The quotes of word processors, as shells and configurations write them.
 AS_ASCII = {
@@ -69,7 +71,7 @@ def ask_for_both(ask: Ask) -> Pasted:
     password = ask(PASSWORD_PROMPT)
     pasted = b""
     while not pasted:
-        pasted = cleaned(ask(HASH_PROMPT))
+        pasted = without_introduction(ask(HASH_PROMPT))
     rest = pasted
     while rest and is_cut(pasted):
         rest = cleaned(ask(REST_PROMPT))
@@ -81,13 +83,14 @@ def piped_both(console: Console) -> Pasted:
     """Reads a password and a hash from standard input, the hash perhaps in several lines."""
     lines = PipedLines(console)
     password = lines.password()
+    lines.limit(MAX_PASTED, long_hash_error())
     line = lines.next()
     if line is None:
         raise no_hash_error()
-    pasted = cleaned(line)
+    pasted = without_introduction(line)
     while not pasted and line is not None:  # after blank lines, a hash may take a while to come
         line = lines.next()
-        pasted = cleaned(line or b"")
+        pasted = without_introduction(line or b"")
     while is_cut(pasted):
         more = lines.next_within(SECONDS_FOR_REST)
         if more is None:
@@ -109,6 +112,11 @@ def no_hash_error() -> UsageError:
     )
 
 
+def long_hash_error() -> UsageError:
+    """Returns the error for lines that are much too long for a hash."""
+    return UsageError(f"the lines with the hash have more than {MAX_PASTED:,} bytes.")
+
+
 def several_hashes_error() -> UsageError:
     """Returns the error for two hashes where there should be one."""
     return UsageError("there is more than one hash. Give only the one to compare with.")
@@ -120,11 +128,28 @@ def cleaned(line: bytes) -> bytes:
     Refuses a line that is much too long for a hash, on which a search could take hours.
     """
     if len(line) > MAX_PASTED:
-        raise UsageError(f"the line with the hash has more than {MAX_PASTED:,} bytes.")
+        raise long_hash_error()
     text = line.decode("utf-8", "surrogateescape").translate(SHOWS_NOTHING).translate(AS_ASCII)
     words = " ".join(text.split()).encode("utf-8", "surrogateescape")
     marks = REPLY_MARKS.match(words)
     return words[marks.end() :].strip() if marks else words
+
+
+def without_introduction(line: bytes) -> bytes:
+    """Returns a pasted line, cleaned, or nothing if it only introduces what follows."""
+    pasted = cleaned(line)
+    return b"" if is_introduction(pasted) else pasted
+
+
+def is_introduction(line: bytes) -> bool:
+    """Whether a line has no hash, but introduces a quoted e-mail, as "On Tue, Bob wrote:" does.
+
+    A time in it has colons too. In a line of a password file, a name or a field has no blanks.
+    """
+    fields = line.split(b":")
+    if len(fields) == 1 or fields[-1] or BEGINNING.search(line):
+        return False
+    return b" " in fields[0] and b" " in fields[-2]
 
 
 def field_of_pasted(pasted: bytes) -> bytes:
@@ -148,7 +173,7 @@ def is_plain_before(text: bytes) -> bool:
 
 
 def end_of_hash(line: bytes, begin: int) -> int:
-    """Returns where a hash ends that begins here: at the quote that it begins with, if it does."""
+    """Returns where the hash that begins here ends: at the closing quote, if it is in quotes."""
     before = line[begin - 1 : begin]
     if before and before in QUOTES:
         end = line.find(before, begin)
@@ -164,7 +189,7 @@ def second_field(line: bytes) -> bytes:
     name, colon, rest = bare.partition(b":")
     if not colon or begins_like_hash(without_prefix(name)):
         return name
-    return rest.partition(b":")[0].strip(QUOTES)
+    return encoded_value(rest) or rest.partition(b":")[0].strip(QUOTES)
 
 
 def without_blanks(text: bytes) -> bytes:

@@ -3,11 +3,13 @@
 from __future__ import annotations
 
 import contextlib
+import errno
 import os
 import stat
 from collections.abc import Iterator
 from typing import Optional, Set
 
+from pwhash import system
 from pwhash.errors import UsageError, errors_named
 from pwhash.folders import (
     SUPERUSER,
@@ -20,9 +22,6 @@ from pwhash.folders import (
 from pwhash.text import display_name, shell_quoted
 
 AS_SUPERUSER = "Run pwhash as its owner or as the superuser, with sudo for example."
-EVEN_FOR_SUPERUSER = (
-    "Not even the superuser is: perhaps its file system is read-only, or it is immutable (lsattr)."
-)
 
 
 class Place(FileInFolder):
@@ -30,7 +29,7 @@ class Place(FileInFolder):
 
     @property
     def lock(self) -> str:
-        """The name of the file that is locked."""
+        """The name of the lock file."""
         return f"{self.name}.mkpasswd.lock"
 
     @property
@@ -119,28 +118,33 @@ def refuse_strange_file(place: Place, found: os.stat_result) -> None:
 
 def refuse_unwritable(place: Place) -> None:
     """Refuses a file that this user may not change. Called before pwhash asks for a password."""
-    if not has_access(place, place.name, os.R_OK | os.W_OK):
-        raise UsageError(f"you aren't allowed to write {place.display_name}. {write_advice()}")
+    number = system.access_error(place.folder, place.name, os.R_OK | os.W_OK)
+    if number:
+        raise UsageError(
+            f"you aren't allowed to write {place.display_name}. {write_advice(number, 'file')}"
+        )
     refuse_folder_of_others(place)
 
 
 def refuse_folder_of_others(place: Place) -> None:
     """Refuses a folder in which this user may not create files."""
-    if not has_access(place, ".", os.W_OK | os.X_OK):
+    number = system.access_error(place.folder, ".", os.W_OK | os.X_OK)
+    if number:
         raise UsageError(
             f"you aren't allowed to make files in the folder of {place.display_name}, where the "
-            f"new version has to be. {write_advice()}"
+            f"new version has to be. {write_advice(number, 'folder')}"
         )
 
 
-def write_advice() -> str:
-    """Returns what to do about a file that this process may not write."""
-    return EVEN_FOR_SUPERUSER if os.geteuid() == SUPERUSER else AS_SUPERUSER
-
-
-def has_access(place: Place, name: str, mode: int) -> bool:
-    """Whether this process has this access to a name in the folder."""
-    return os.access(name, mode, dir_fd=place.folder, effective_ids=True)
+def write_advice(number: int, what: str) -> str:
+    """Returns what to do about a file or folder for which writing has this error."""
+    if number == errno.EROFS:
+        return f"The {what} is in a read-only file system."
+    if number == errno.EPERM:  # whoever asks, except by rules such as SELinux's
+        return f"Perhaps the {what} is immutable (lsattr)."
+    if os.geteuid() == SUPERUSER:
+        return f"Not even the superuser is: {os.strerror(number)}."
+    return AS_SUPERUSER
 
 
 def refuse_open_folder(place: Place, owner: int) -> None:

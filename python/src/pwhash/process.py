@@ -12,11 +12,15 @@ from pwhash.console import STDERR
 
 # A run may keep many lines, and none of them is garbage, so Python rarely looks for any.
 OBJECTS_BETWEEN_COLLECTIONS = 1 << 20
+# Nobody else may read a new file. The caller's umask may even forbid its owner to read it, as 0777
+# does, and a lock file that nobody can open would lock out its owner for ever.
+OWN_UMASK = 0o077
 
 
 def prepare() -> None:
     """Puts the process into a known state, however it was started."""
     prevent_core_dumps()
+    os.umask(OWN_UMASK)
     open_closed_descriptors()
     gc.set_threshold(OBJECTS_BETWEEN_COLLECTIONS)
     signal.pthread_sigmask(signal.SIG_SETMASK, [])

@@ -28,7 +28,7 @@ class Progress:
             self._first_line, self._start = line, time.monotonic()
             return
         seconds = time.monotonic() - self._start
-        line = min(line, self._total - 1)
+        line = min(line, self._total - 1)  # so that an unfinished run shows less than 100 %
         if seconds >= self._next and line > self._first_line:
             self._next = seconds + INTERVAL
             self._show(line, (line - self._first_line) / seconds)

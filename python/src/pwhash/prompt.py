@@ -36,7 +36,7 @@ CHANGES_LINES = ECHO | XCASE
 IUCLC = getattr(termios, "IUCLC", 0o1000)
 CHANGES_KEYS = termios.ISTRIP | IUCLC | termios.PARMRK | termios.IGNCR | termios.INLCR
 POLL_SECONDS = 0.05
-PIECE = 4096
+PIECE = 4096  # bytes of a read; a terminal returns a line of no more
 
 Ask = Callable[[bytes], bytes]  # shows a prompt, and returns what is typed there
 Answers = TypeVar("Answers")
@@ -95,7 +95,7 @@ def ask_on_terminal(fd: int, conversation: Callable[[Ask], Answers]) -> Answers:
     finally:
         signal.signal(signal.SIGCONT, signal.SIG_DFL)
         restore(terminal)
-        # A pending one ends the run here, or stops it.
+        # A pending signal ends the run here, or stops it.
         signal.pthread_sigmask(signal.SIG_UNBLOCK, blocked)
 
 
@@ -121,7 +121,7 @@ def wait_for_foreground(fd: int) -> None:
     while is_in_background(fd):
         try:
             termios.tcdrain(fd)  # stops a process in the background, and changes nothing
-            return  # in the background only if SIGTTOU is ignored
+            return  # reached in the background only if SIGTTOU is ignored
         except termios.error as error:
             if error.args[0] != errno.EINTR:
                 raise cant_hide_error() from None

@@ -7,6 +7,7 @@ from __future__ import annotations
 
 import contextlib
 import errno
+import os
 import stat
 from collections.abc import Iterator
 from typing import Callable
@@ -14,6 +15,7 @@ from typing import Callable
 from pwhash import password_file
 from pwhash.errors import Stop, reason_of
 from pwhash.exchange import Outcome, end_earlier_exchange, exchange_files
+from pwhash.folders import SUPERUSER
 from pwhash.lock import Owner, hold_lock
 from pwhash.new_file import NewFile, copy_attributes, opened_new
 from pwhash.password_file import Opened
@@ -21,6 +23,10 @@ from pwhash.place import Place, find_file
 from pwhash.session import Session
 
 MAX_TRIES = 8
+NOT_PERMITTED = (
+    "only its owner or the superuser can do this, and nobody if it or its folder is append-only or "
+    "immutable (lsattr)"
+)
 
 # Returns the new content of a file with this content. Raises Stop if that can't be changed.
 Change = Callable[[bytes], bytes]
@@ -57,8 +63,8 @@ def errors_named_of(place: Place) -> Iterator[None]:
         yield
     except OSError as error:
         reason = reason_of(error)
-        if error.errno == errno.EPERM:
-            reason += ", as only its owner or the superuser can do this"
+        if error.errno == errno.EPERM and os.geteuid() != SUPERUSER:
+            reason = f"{os.strerror(errno.EPERM)}: {NOT_PERMITTED}"
         raise Stop(f"{place.display_name}: {reason}. The file stays as it was.") from None
 
 

@@ -86,6 +86,7 @@ class TableReport(Report):
         row = f"{name:20}  {method:12}  {rounds:>11}  {finding}"
         if len(row) <= self._columns:
             return row
+        # For an empty name, wrap() returns no line.
         wrapped_name = "\n".join(textwrap.wrap(name, self._columns, drop_whitespace=False) or [""])
         return f"{wrapped_name}\n  {' '.join(filter(None, [method, rounds, finding]))}"
 

@@ -33,14 +33,15 @@ class Parts(NamedTuple):
 
 
 def skip_hashed(part: Part, groups: LineGroups, policy: Policy, source_name: str) -> LineGroups:
-    """Returns the lines without a hash in the part. Cuts an incomplete line off its end."""
+    """Returns the lines without a hash in the part. Cuts an incomplete line off the part."""
     lines = itertools.chain.from_iterable(groups)
     with errors_named(part.name):
         count, size = whole_lines(part.fd)
         with open(part.fd, "rb", closefd=False) as file:
             answers = (file.readline()[:-1] for _ in range(count))
             Comparison(part.name, source_name, policy).compare(answers, count, lines)
-        os.ftruncate(part.fd, os.lseek(part.fd, size, os.SEEK_SET))
+        os.ftruncate(part.fd, size)
+        os.lseek(part.fd, size, os.SEEK_SET)
     return in_groups(lines)
 
 
@@ -76,8 +77,8 @@ class Comparison(NamedTuple):
                 raise self._refused(index, line)
             parts = parts_of(found, self.policy)
             first = first or parts
-            is_end = index in (0, count - 1)
-            if parts != first or (is_end and not is_same_hash(found, line, self.policy)):
+            is_recomputed = index in (0, count - 1)
+            if parts != first or (is_recomputed and not is_same_hash(found, line, self.policy)):
                 raise self._refused(index, line)
 
     def _refused(self, index: int, line: Optional[Line]) -> UsageError:

@@ -17,7 +17,7 @@ from pwhash.options import Doubtful, FileOptions
 from pwhash.source import Source
 
 SUFFIX = ".options"
-MAX_BYTES = 1 << 23
+MAX_BYTES = 1 << 23  # of OUT.part.options, which names each list: enough for 100,000 lists
 BEGIN = b"pwhash file --resume needs this.\n"
 FORM = re.compile(
     re.escape(BEGIN)
@@ -33,7 +33,7 @@ class ResumeState(NamedTuple):
     """What OUT.part.options says."""
 
     file: bytes  # FILE's size, time and inode
-    lists: bytes  # those of each list of passwords that the run has written
+    lists: bytes  # the size, time and inode of each list of passwords that the run has written
     choice: bytes  # the options that decide which lines are left out
     options: bytes  # the options that change a line before it is hashed
 
@@ -48,7 +48,7 @@ def state_file(part: FileInFolder) -> FileInFolder:
 
 
 def current_state(options: FileOptions, source: Source, lists: bytes = b"") -> ResumeState:
-    """Returns what this run saves. That isn't the ctime, which reading and chmod change."""
+    """Returns what this run saves: not the ctime, which chmod and a new link change too."""
     status = source.initial_status
     file = f"{status.st_size} bytes, time {status.st_mtime_ns}, inode {status.st_ino}"
     return ResumeState(file.encode(), lists, choice_options(options), line_options(options))

@@ -24,7 +24,7 @@ class Session:
         self.signals = Signals(self._end_by_signal)
         self.options: Optional[Options] = None
         self.part: Optional[Part] = None
-        self.changed: Optional[str] = None  # the file that this run has replaced
+        self.changed: Optional[str] = None  # the password file, once it is replaced or created
         self._command = command
         self._arguments = arguments
         self._status_if_whole = Status.OK

@@ -2,11 +2,10 @@
 
 from __future__ import annotations
 
-from typing import Optional
-
 from pwhash import field, library, password_file, system_files
 from pwhash.doubts import SERVICE_NAMES
 from pwhash.errors import ProblemsFound, UsageError
+from pwhash.exchange import refuse_obstacles
 from pwhash.field import Field
 from pwhash.library import Refusal
 from pwhash.lines import refused_name
@@ -23,7 +22,7 @@ from pwhash.place import (
 from pwhash.replacing import replace
 from pwhash.session import Session
 from pwhash.single import generated, refusal_error
-from pwhash.text import is_visible, printable
+from pwhash.text import encoding_hint, is_utf8, is_visible, printable
 from pwhash.workers import run_in_thread
 
 # The prefix of a new hash if the old hash's prefix doesn't fit it.
@@ -55,10 +54,11 @@ def refuse_unfit(place: Place) -> None:
     system_files.refuse_place(place, status)
     refuse_open_folder(place, status.st_uid)
     refuse_unwritable(place)
+    refuse_obstacles(place)
 
 
 def hash_of_password(options: SetOptions, session: Session) -> bytes:
-    """Returns the hash of a new password, which it makes or asks for."""
+    """Generates a new password or asks for it, and returns its hash."""
     policy = options.policy
     if options.generate:
         password = generated(policy, session.console)
@@ -87,7 +87,7 @@ class Line:
     def check(self) -> None:
         """Finds out whether the change is possible, and whether it is needed."""
         with password_file.opened(self._place) as file:
-            self.changed(file.content)
+            self.changed(file.content)  # raises if it can't be changed, and sets is_done_already
             entry = password_file.find(file.content, self._name, self._file)
         if entry is None:
             self._say(f"{self._file} has no {self._user} yet: a line is added.")
@@ -105,7 +105,7 @@ class Line:
         return password_file.with_field(content, entry, self._change_field(entry))
 
     def _refuse_other_field(self, content: bytes, entry: Entry) -> None:
-        """Refuses a second field that is no hash: in htdigest's files it is a realm."""
+        """Refuses a field that may be a plain password, or a realm as in htdigest's files."""
         old, behind = entry.field, content[entry.field_end : entry.field_end + 1]
         if old.is_locked and not old.is_surely_locked:
             raise UsageError(
@@ -131,8 +131,8 @@ class Line:
     def _with_new_line(self, content: bytes) -> bytes:
         """Returns the content with a new line."""
         if self._options.action is not Action.PASSWORD:
-            raise ProblemsFound(f"{self._file} has no {self._user}.")
-        refuse_new_name(self._name, self._options.service)
+            raise ProblemsFound(f"{self._file} has no {self._user}.{encoding_hint(self._name)}")
+        refuse_new_name(self._name, self._options)
         odd = password_file.first_odd_line(content)
         if odd is not None:
             raise UsageError(
@@ -166,7 +166,7 @@ class Line:
     def _fits(self, prefix: bytes) -> bool:
         """Whether the new hash may follow a prefix, so that the service finds it there.
 
-        Of the prefixes for crypt(3), Apache and nginx know none, and LDAP's servers only {CRYPT}.
+        Apache and nginx know no prefix for crypt(3), and LDAP's servers only {CRYPT}.
         """
         service = self._options.service
         if service is None or service is Service.DOVECOT:
@@ -212,7 +212,7 @@ class Line:
         return old.unlocked()
 
 
-def refuse_new_name(name: bytes, service: Optional[Service]) -> None:
+def refuse_new_name(name: bytes, options: SetOptions) -> None:
     """Refuses a name that a service may take for another one."""
     refusal = refused_name(name)
     if refusal is not None:
@@ -223,5 +223,11 @@ def refuse_new_name(name: bytes, service: Optional[Service]) -> None:
             "NAME has an invisible character, or a blank at an end, by which services take it for "
             "another. Give it without."
         )
+    if not is_utf8(name) and not options.accepts_doubtful:
+        raise UsageError(
+            "NAME isn't UTF-8, and the file has no such name. The terminal may have another "
+            "encoding. To add the name as it is, add --accept-doubtful."
+        )
+    service = options.service
     if service is not None and not SERVICE_NAMES[service].fullmatch(name):
         raise UsageError(f"NAME is one that {service.value} takes for another, or skips.")

@@ -10,6 +10,7 @@ from __future__ import annotations
 import re
 from collections.abc import Sequence
 
+from pwhash import headings
 from pwhash.exports import is_digest, is_stored
 from pwhash.text import printable
 
@@ -17,9 +18,10 @@ MAX_NAMED = 20  # names, or numbers of lines, in a message
 LONGEST_SHOWN = 64  # bytes; no name that mkpasswd accepts is longer
 # Blanks, quotes and the separators of tables, also full-width ones: the line may be a row.
 IN_NO_NAME = re.compile("[\\s,;|\"'`\u2018-\u201f\xab\xbb\uff0c\uff1a\uff1b\uff5c]")
-# What may be a hash of DES: 13 characters of all kinds.
+# What may be a hash of DES: 13 characters of crypt's alphabet, with both cases and a digit, . or /.
 DES = re.compile(rb"(?=.*[A-Z])(?=.*[a-z])(?=.*[./0-9])[./0-9A-Za-z]{13}")
-# What names of users have. With another sign, or both a capital and a digit, it may be a password.
+# The characters of users' names. What has another one, or both a capital and a digit, may be a
+# password.
 OF_NAMES = re.compile(r"[\w.@+\\-]+")
 CAPITAL_AND_DIGIT = re.compile(r"(?=.*[A-Z])(?=.*[0-9])")
 # The beginning of a hash or of a cut one, as $6$ and {SSHA}.
@@ -42,7 +44,7 @@ def may_be_shown(name: bytes) -> bool:
 
 
 def is_no_password(name: bytes) -> bool:
-    """Whether this looks like a name, and not like a password either, whose column is another."""
+    """Whether this looks like a name, and not like a password from a line password:name."""
     text = name.strip().decode(errors="ignore")
     if not OF_NAMES.fullmatch(text) or CAPITAL_AND_DIGIT.match(text):
         return False
@@ -76,3 +78,25 @@ def list_names(names: Sequence[bytes]) -> str:
     if hidden == 1:
         return "1, not shown since it may be a password"
     return f"{hidden:,}, not shown since they may be passwords"
+
+
+def list_headings(row: Sequence[bytes]) -> str:
+    """Returns the headings in the first row of a table for a message, as "login and 2 more".
+
+    Returns nothing if they may be values, and so passwords. A row with two words that head columns
+    of names or passwords is one of headings. A single such word may be a user's name or a password.
+    """
+    is_heading_row = sum(headings.is_known(field) for field in row) > 1
+    all_shown = [field.strip() for field in row if may_show_heading(field, is_heading_row)]
+    shown = [printable(field) for field in all_shown[:MAX_NAMED]]
+    if not shown:
+        return ""
+    hidden = len(row) - len(shown)
+    return ", ".join(shown) + (f" and {hidden:,} more" if hidden else "")
+
+
+def may_show_heading(field: bytes, is_heading_row: bool) -> bool:
+    """Whether a field of a first row is surely no password."""
+    if is_heading_row:
+        return headings.is_known(field) or is_no_password(field)
+    return headings.fold(field) in headings.NAMES

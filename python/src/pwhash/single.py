@@ -16,7 +16,7 @@ from pwhash.session import Session
 from pwhash.workers import run_in_thread
 
 LOOK_ALIKES = "0O1lI"  # on paper
-LETTERS = [each for each in string.ascii_letters + string.digits if each not in LOOK_ALIKES]
+CHARACTERS = [each for each in string.ascii_letters + string.digits if each not in LOOK_ALIKES]
 SECONDS_OF_DAY = 86400
 
 
@@ -57,6 +57,6 @@ def generated(policy: Policy, console: Console) -> bytes:
 def random_letter_or_digit() -> str:
     """Returns a letter or digit, each equally likely. The module secrets is slow to import."""
     while True:
-        number = os.urandom(1)[0] & 63
-        if number < len(LETTERS):
-            return LETTERS[number]
+        number = os.urandom(1)[0] & 63  # below 64, so that few numbers are drawn in vain
+        if number < len(CHARACTERS):
+            return CHARACTERS[number]

@@ -16,9 +16,9 @@ from pwhash.options import Input
 from pwhash.text import display_name, shell_quoted
 
 PIECE = 1 << 18
-# How many bytes of an unfinished line are kept. A row may have 128 KiB, so one byte more shows that
-# the row is too long, and later bytes aren't needed.
-LONGEST_KEPT = (1 << 17) + 1
+LONGEST_LINE = 1 << 17  # in bytes; csv accepts no longer fields
+# An unfinished line may still lose its byte order mark and its carriage return.
+LONGEST_UNFINISHED = LONGEST_LINE + len(BYTE_ORDER_MARK) + 1
 IDLE_MILLISECONDS = 20
 SECONDS_UNTIL_WRITER = 3  # that a named pipe may take to get a writer
 READ_TWICE = "-o and --look need a file, which can be read twice. Give its name, or leave them out."
@@ -45,7 +45,7 @@ class Source:
         self.total = self._count() if self.is_regular and wanted.counts_lines else 0
 
     def lines(self) -> LineGroups:
-        """Yields all lines from the beginning."""
+        """Yields all lines from the beginning. Ends the run at a line above 128 KiB."""
         if self.is_regular:
             os.lseek(self.fd, self._start, os.SEEK_SET)
         first, rest, is_end = 1, b"", False
@@ -60,7 +60,9 @@ class Source:
             if is_end and rest:  # the last line, without a line feed
                 whole.append(rest)
             yield self._numbered(whole, first)
-            first, rest = first + len(whole), rest[:LONGEST_KEPT]
+            first += len(whole)
+            if len(rest) > LONGEST_UNFINISHED:  # and perhaps endless
+                raise self._long_line_error(first)
 
     def is_ready(self) -> bool:
         """Waits a moment for input or its end, and returns whether either came."""
@@ -81,7 +83,7 @@ class Source:
     def change(self) -> Optional[str]:
         """Says what has changed about the file since it was opened, or returns None.
 
-        It ignores the ctime, which reading and chmod change.
+        It ignores the ctime, which chmod and a new link change too.
         """
         if not self.is_regular:
             return None
@@ -109,7 +111,13 @@ class Source:
     def _numbered(self, data: List[bytes], first: int) -> List[Line]:
         if self.input.windows or self.input.columns is not None:  # Excel is a program of Windows
             data = [without_signs_of_windows(line) for line in data]
+        if max(map(len, data), default=0) > LONGEST_LINE:
+            lengths = enumerate(map(len, data), first)
+            raise self._long_line_error(next(n for n, size in lengths if size > LONGEST_LINE))
         return [Line(number, line) for number, line in enumerate(data, first)]
+
+    def _long_line_error(self, number: int) -> Stop:
+        return Stop(f"{self.name}, line {number}: longer than 128 KiB, which no line may be.")
 
     def _count(self) -> int:
         with errors_named(self.name):
@@ -118,8 +126,9 @@ class Source:
         return count
 
     def _pieces(self) -> Iterator[bytes]:
+        """Yields what is in the file, up to a piece of a line that is too long."""
         piece = os.read(self.fd, PIECE)
-        while piece:
+        while piece and (len(piece) <= LONGEST_UNFINISHED or b"\n" in piece):
             yield piece
             piece = os.read(self.fd, PIECE)
 

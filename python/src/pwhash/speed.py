@@ -70,5 +70,5 @@ def measure(costly: CostlyHash) -> float:
 
 
 def median(numbers: List[float]) -> float:
-    """Returns the median, or the greater of two. The module statistics is slow to import."""
+    """Returns the median, of an even count the greater. The module statistics loads slowly."""
     return sorted(numbers)[len(numbers) // 2]

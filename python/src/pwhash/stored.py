@@ -8,15 +8,19 @@ from typing import Iterator, NamedTuple
 
 from pwhash.console import Console
 from pwhash.errors import UsageError, errors_named
+from pwhash.field import encoded_value
 from pwhash.source import open_in_time, refuse_as_output
 from pwhash.text import display_name
 
-LONGEST_LINE = 1 << 17
+LONGEST_LINE = 1 << 17  # bytes
 COMMENT = b"#"  # in the files of services; glibc skips such lines of /etc/shadow, too
 
 
 class Stored(NamedTuple):
-    """The number, name and field of a line name:field. A second colon ends the field."""
+    """The number, name and field of a line name:field. A second colon ends the field.
+
+    A line of LDIF such as userPassword:: e1NTSEF9.. has its value as the field.
+    """
 
     number: int
     name: bytes
@@ -39,7 +43,7 @@ def stored_in(path: str, console: Console) -> Iterator[Stored]:
             name, colon, rest = line.rstrip(b"\n").partition(b":")
             if colon and not name.startswith(COMMENT):
                 has_fields = True
-                yield Stored(number, name, rest.partition(b":")[0])
+                yield Stored(number, name, encoded_value(rest) or rest.partition(b":")[0])
             number, line = number + 1, file.readline(LONGEST_LINE)
     if not has_fields:
         raise UsageError(f"{name_of_file} has no line name:field.")

@@ -6,8 +6,10 @@ import ctypes
 import errno
 import os
 
+# As in <linux/prctl.h> and <linux/fs.h>.
 PR_SET_DUMPABLE = 4
 RENAME_NOREPLACE, RENAME_EXCHANGE = 1, 2
+AT_EACCESS = 0x200
 
 
 def forbid_dumps() -> None:
@@ -15,6 +17,15 @@ def forbid_dumps() -> None:
     control = getattr(ctypes.CDLL(None), "prctl", None)
     if control is not None:
         control(PR_SET_DUMPABLE, 0, 0, 0, 0)
+
+
+def access_error(folder: int, name: str, mode: int) -> int:
+    """Returns the error that this process gets for this access to a name in a folder, or 0.
+
+    os.access() doesn't say which error it is.
+    """
+    call = ctypes.CDLL(None, use_errno=True).faccessat
+    return 0 if call(folder, os.fsencode(name), mode, AT_EACCESS) == 0 else ctypes.get_errno()
 
 
 def rename_to_new(folder: int, old: str, new: str) -> None:

@@ -1,4 +1,4 @@
-"""Reads the rows of a CSV table, as spreadsheets export it, as lines name:password."""
+"""Turns the rows of a CSV table from a spreadsheet into lines name:password, or into names."""
 
 from __future__ import annotations
 
@@ -12,16 +12,19 @@ from typing import Iterator, List, NamedTuple, Optional, Protocol, Tuple
 from pwhash import headings
 from pwhash.errors import Stop, UsageError
 from pwhash.lines import Line, LineGroups
-from pwhash.source import Source
+from pwhash.shown_names import list_headings
+from pwhash.source import LONGEST_LINE, Source
 
-LONGEST_ROW = 1 << 17  # bytes of a row or a field; csv accepts no longer fields
+LONGEST_ROW = LONGEST_LINE  # also if the row has several lines
 SEPARATORS = {",": "a comma", ";": "a semicolon", "\t": "a tab"}
 NAME_IN_LISTS = "name"  # the heading of user names in a list of new passwords
-NUMBERS = [str(number) for number in range(1, 100)]  # that can be given instead of names
+NUMBERS = [str(number) for number in range(1, 100)]  # that options take in place of names
 # Maps each byte to the character of that number and back, so that the encoding doesn't matter.
 BYTES = "latin-1"
 IN_QUOTES = re.compile('"[^"]*"')
-OPEN_QUOTE = re.compile('(?:^|[,;\t])"')  # after IN_QUOTES was removed
+# A quote that begins a field, in a row from which the quoted parts (IN_QUOTES) were removed. So the
+# field goes on in the next text.
+OPEN_QUOTE = re.compile('(?:^|[,;\t])"')
 UTF16_MARKS = ("\xff\xfe", "\xfe\xff")
 
 Row = List[str]
@@ -44,7 +47,7 @@ class Columns(NamedTuple):
 
     headings: Row  # of all columns; empty if columns are chosen by number
     name: int
-    second: Optional[int]  # the password, or the group if there is one
+    second: Optional[int]  # the password, or in a table of names the group, if there is one
     others: Tuple[int, ...]  # those of --list-columns
     width: int  # the number of fields in the first row
 
@@ -76,9 +79,9 @@ class Table:
 
     def lines(self) -> LineGroups:
         """Yields the rows as lines."""
-        counts = (1, 2) if self._names_only else (2,)
+        allowed_counts = (1, 2) if self._names_only else (2,)
         is_any_twice = any(has_duplicates(columns) for columns in (self._wanted, self._others))
-        if len(self._wanted) not in counts or is_any_twice:
+        if len(self._wanted) not in allowed_counts or is_any_twice:
             raise self._no_columns()
         head = self._first_row_with_blank_ones()
         separator = self._source.separator = self._separator(head)
@@ -86,9 +89,9 @@ class Table:
         reader = csv.reader(texts, delimiter=separator, strict=True)
         first = self._next_row(reader) or []
         columns = self._columns(first)
-        joined = self._joined_lines(first)
-        if columns.headings and joined is not None:
-            yield [Line(reader.line_num, b"", joined)]
+        refusal = self._joined_lines(first)
+        if columns.headings and refusal is not None:
+            yield [Line(reader.line_num, b"", refusal)]
         row = self._next_row(reader) if columns.headings else first
         while row is not None:
             yield [self._line(reader.line_num, row, columns)]
@@ -107,6 +110,8 @@ class Table:
             head.append(next(self._texts, ""))
         self._row_begin = len(head)
         is_utf16 = head[-1].startswith(UTF16_MARKS)
+        # UTF-16 without a byte order mark has zero bytes. If columns are numbered, the first row is
+        # a line, and a zero byte in its password is refused as in any other row.
         if is_utf16 or (self._has_names() and "\0" in head[-1]):
             raise self._no_columns()
         if not head[-1]:
@@ -123,7 +128,7 @@ class Table:
                 return
             yield text
             size += len(text)
-            is_open = text.count('"') % 2 == 0
+            is_open = text.count('"') % 2 == 0  # an odd number of quotes closes the open one
 
     def _separator(self, head: List[str]) -> str:
         """Finds the separator: the one that yields the wanted names, or the only one there."""
@@ -154,10 +159,12 @@ class Table:
         names = fold_row(first)
         known = names if self._has_names() else NUMBERS
         if any(known.count(each) != 1 for each in [*self._wanted, *self._others]):
-            raise self._no_columns()
-        name, second = [*(known.index(each) for each in self._wanted), None][:2]
-        assert name is not None
-        # If columns are numbered, the second field may be a password such as "name".
+            raise self._no_columns([field.encode(BYTES) for field in first])
+        wanted = [known.index(each) for each in self._wanted]
+        name = wanted[0]
+        second = wanted[1] if len(wanted) > 1 else None
+        # If columns are numbered, the second field may be a password such as "name", so it isn't
+        # judged.
         above = self._wanted if self._has_names() else [cell(names, name), ""]
         if self._names_only:
             self._refuse_passwords([*above, *self._others])
@@ -190,16 +197,18 @@ class Table:
                 "surname, or leave it out."
             )
 
-    def _no_columns(self) -> UsageError:
+    def _no_columns(self, first_row: Sequence[bytes] = ()) -> UsageError:
+        found = list_headings(first_row)
+        there = f" Its first row has {found}." if found else ""
         if self._names_only:
             return UsageError(
                 "--columns, by default name, --by and --list-columns need names that are once in "
-                f"the first row of {self._name}, or if that has no names, numbers, as 1. Save "
-                "UTF-16 and Windows-1252 as UTF-8."
+                f"the first row of {self._name}, or if that has no names, numbers, as 1.{there} "
+                "Save UTF-16 and Windows-1252 as UTF-8."
             )
         return UsageError(
             "--columns, by default name,password, needs two names, each once in the first row of "
-            f"{self._name}, or if that has no names, numbers, as 1,2. Save UTF-16 as UTF-8."
+            f"{self._name}, or if that has no names, numbers, as 1,2.{there} Save UTF-16 as UTF-8."
         )
 
     def _limited(self, texts: Iterator[str]) -> Iterator[str]:
@@ -266,9 +275,9 @@ class Table:
         return "a colon in the name" if ":" in name else None
 
     def _joined_lines(self, row: Row) -> Optional[str]:
-        """Refuses a row of several lines. A stray quote may have joined them, up to the next quote.
+        """Says why a row of several lines is refused, or returns None for a row of one line.
 
-        That can happen in any field, and in a heading too.
+        A stray quote may have joined the lines, up to the next quote, in any field or heading.
         """
         if any("\n" in field for field in row):
             return f"a line feed in a field: lines {self._row_begin} to here are one row"
@@ -325,7 +334,7 @@ def is_row_and_heading(fields: Row, own: Row) -> bool:
 def is_joined_with_heading(fields: Row, columns: Columns) -> bool:
     """Whether a row ends in the heading of another table, as in ann,pw1name,password.
 
-    `cat` joins tables so if the last line of the first one has no line feed.
+    `cat` joins tables like this if the last line of the first one has no line feed.
     """
     own = columns.headings
     if len(fields) > 1 and fields[1:] == own[1:] and fields[0].endswith(own[0]):
@@ -333,6 +342,8 @@ def is_joined_with_heading(fields: Row, columns: Columns) -> bool:
     joined = len(fields) - 1  # the field that has a value and a heading in it
     while joined > 0 and is_heading(fields[joined], own):
         joined -= 1
+    # A value such as "name" can be a heading by chance, so one of passwords, or the last one of
+    # this table, has to be among them.
     others = fields[joined + 1 :]
     if joined == 0 or not any(each in headings.PASSWORDS or each in own[-1:] for each in others):
         return False
@@ -349,7 +360,6 @@ class Texts(Iterator[str]):
     """The lines of a source, one after the other, as csv needs them."""
 
     def __init__(self, source: Source) -> None:
-        self._source = source
         self._arrivals = source.lines()
         self._waiting: Iterator[Line] = iter(())
         self._next: Optional[Line] = None
@@ -361,11 +371,6 @@ class Texts(Iterator[str]):
             if self._is_end:
                 raise StopIteration
         line, self._next = self._next, None
-        if len(line.data) > LONGEST_ROW:
-            raise Stop(
-                f"{self._source.name}, line {line.number}: longer than 128 KiB, "
-                "which no row may be."
-            )
         return line.data.decode(BYTES) + "\n"
 
     def is_ready(self) -> bool:

@@ -51,7 +51,7 @@ class Target:
         return b"" if old is None else old.rest
 
     def refuse_removals(self, hashes: Iterable[Hash]) -> None:
-        """Refuses HASHES that lacks names of TARGET, which couldn't log in any more."""
+        """Refuses HASHES if it lacks names of TARGET, which could then no longer log in."""
         removed = self.removed(hashes)
         if removed:
             raise ProblemsFound(
@@ -66,7 +66,7 @@ class Target:
         return [name for name in self.lines if name not in kept]
 
     def refuse_entrances(self, hashes: Iterable[Hash]) -> None:
-        """Refuses HASHES that let in names which TARGET may keep out, though without a mark."""
+        """Refuses HASHES if it lets in names that TARGET may keep out, though without a mark."""
         let_in = [line.name for line in hashes if not line.field.is_locked]
         doubtful = [name for name in let_in if self._may_keep_out(name)]
         if doubtful:

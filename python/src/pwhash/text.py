@@ -13,6 +13,7 @@ SHOWS_NOTHING = re.compile(
     "\U000e0100-\U000e01ef]"
 )
 DECOMPOSED = "letters and accents apart (not Unicode NFC), as few keyboards send them"
+# What $'..' has as an octal number: all but printable ASCII, its quote and its backslash.
 NEEDS_NUMBER = re.compile(rb"[^\x20-\x7e]|['\\]")
 
 
@@ -25,16 +26,24 @@ def is_utf8(data: bytes) -> bool:
     return True
 
 
+def encoding_hint(name: bytes) -> str:
+    """Returns a sentence, with a blank before it, if a name from the command line isn't UTF-8."""
+    if is_utf8(name):
+        return ""
+    return " NAME isn't UTF-8: the terminal may have another encoding than the file."
+
+
 def is_visible(text: str) -> bool:
     """Whether each character shows something, or is a blank."""
     return text.isprintable() and not SHOWS_NOTHING.search(text)
 
 
 def printable(data: bytes) -> str:
-    """Returns bytes as text without control characters, which can't control a terminal."""
+    """Returns bytes as text that can't control a terminal, with escapes such as \\x1b."""
     text = data.decode("utf-8", "backslashreplace")
     if text.isprintable():
         return text
+    # ascii() puts an escape between quotes.
     return "".join(each if each.isprintable() else ascii(each)[1:-1] for each in text)
 
 

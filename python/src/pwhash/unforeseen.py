@@ -17,10 +17,13 @@ FAILED = 3
 
 
 def watch() -> None:
-    """From here on, each such exception ends the process with a sentence, in any thread."""
+    """From here on, an exception that nothing handles ends the process with a sentence.
+
+    Only one that Python can't raise, as in a __del__, is just reported.
+    """
     sys.excepthook = end
     threading.excepthook = end_in_thread
-    sys.unraisablehook = ignore
+    sys.unraisablehook = report_unraisable
 
 
 def end(
@@ -36,7 +39,7 @@ def end_in_thread(arguments: threading.ExceptHookArgs) -> None:
     end(arguments.exc_type, arguments.exc_value, arguments.exc_traceback)
 
 
-def ignore(arguments: "sys.UnraisableHookArgs") -> None:
+def report_unraisable(arguments: "sys.UnraisableHookArgs") -> None:
     """Reports an exception that Python can't raise, such as one in a __del__."""
     say(f"{describe(arguments.exc_type, arguments.exc_traceback)}. The run continues.")
 

@@ -15,7 +15,7 @@ from mkpasswd import State
 from pwhash import library
 from pwhash.console import STDIN, STDOUT, Console
 from pwhash.errors import UsageError
-from pwhash.field import without_prefix
+from pwhash.field import ENCODED, is_encoded, without_prefix
 from pwhash.library import OVER_BUDGET, Refusal, Verdict
 from pwhash.lines import BYTE_ORDER_MARK
 from pwhash.options import VerifyOptions
@@ -26,7 +26,7 @@ from pwhash.prompt import ask_each, with_hidden_input
 from pwhash.session import Session
 from pwhash.shown_names import shown_line
 from pwhash.stored import Stored, stored_in
-from pwhash.text import DECOMPOSED, display_name, is_utf8, is_visible
+from pwhash.text import DECOMPOSED, display_name, encoding_hint, is_utf8, is_visible
 from pwhash.workers import run_in_thread
 
 MATCHES = b"yes, the password matches"
@@ -70,7 +70,7 @@ def run(options: VerifyOptions, session: Session) -> bool:
 
 
 def ask_for_password(options: VerifyOptions, console: Console) -> Attempt:
-    """Finds the hash of a name in a file, and asks for the password if one can match."""
+    """Finds the hash of a name in a file, and asks for the password if they can be compared."""
     line = find_only_line(options, console)
     whose = shown_line(display_name(options.path), line.number, line.name)
     stored = whole_hash(line.field, whose)
@@ -101,7 +101,7 @@ def find_only_line(options: VerifyOptions, console: Console) -> Stored:
     found = [each for each in stored_in(options.path, console) if each.name == name]
     file = display_name(options.path)
     if not found:
-        raise UsageError(f"{file} has no line of this name.")
+        raise UsageError(f"{file} has no line of this name.{encoding_hint(name)}")
     if len(found) > 1:
         numbers = ", ".join(str(each.number) for each in found[:3])
         raise UsageError(
@@ -114,7 +114,7 @@ def find_only_line(options: VerifyOptions, console: Console) -> Stored:
 
 
 def whole_hash(field: bytes, whose: str, advice: str = "") -> bytes:
-    """Returns the hash in a field, without a prefix. Refuses what no password can match.
+    """Returns the hash in a field, without a prefix. Refuses what can't be compared.
 
     The advice is for a field that has no hash.
     """
@@ -128,7 +128,9 @@ def whole_hash(field: bytes, whose: str, advice: str = "") -> bytes:
 
 
 def describe_problem(stored: bytes) -> Optional[str]:
-    """Says why no password can match a stored field, or returns None."""
+    """Says why no password can be compared with a stored field, or returns None."""
+    if is_encoded(stored):
+        return ENCODED
     found = library.describe(stored)
     if found.state is State.UNKNOWN or stored.startswith(b"{"):
         return f"a hash of {found.scheme or 'another scheme'}, which pwhash can't check"

@@ -108,6 +108,7 @@ class Workers:
         waiting: List[Line] = []
         for group in groups:
             waiting += group
+            # After an empty group the input pauses, so even a few lines are submitted.
             while waiting and (len(waiting) >= self._size or not group):
                 lines, waiting = waiting[: self._size], waiting[self._size :]
                 self._submit(lines)
@@ -141,6 +142,7 @@ class Workers:
         except Stop:
             if not self._threads:
                 raise
+            # The machine allows no more threads, and those that run can do the work.
             self._max_threads = self._threads
 
     def _run(self) -> None:

@@ -197,7 +197,8 @@ class Answerer:
             if not line.stored.is_replaced:
                 return start + self.work_text(work) + b"\n", False
             start += b":"
-        setting = self.setting_of_new(received[len(start) :])
+        received_hash = received[len(start) :]
+        setting = self.setting_of_new(received_hash)
         new = hash_of(setting, line.password) or b"(an unknown hash)"
         work += work_of(setting, line.password)
         return start + new + self.work_text(work) + b"\n", False
@@ -261,12 +262,12 @@ def expected_of_lines(job: Job, given: bytes, answers: deque[bytes]) -> Iterator
 
 def differences(job: Job, given: bytes, result: Result) -> list[str]:
     """Returns how a run differs from the model: each stream's first wrong line, and the status."""
-    left = {"stdout": deque(lines_of(result.stdout)), "stderr": deque(lines_of(result.stderr))}
+    unread = {"stdout": deque(lines_of(result.stdout)), "stderr": deque(lines_of(result.stderr))}
     first_differences: dict[str, str] = {}
     status = 0
     given_lines = lines_of(given)
-    for line, expected in zip(given_lines, expected_of_lines(job, given, left["stdout"])):
-        stream = left[expected.stream]
+    for line, expected in zip(given_lines, expected_of_lines(job, given, unread["stdout"])):
+        stream = unread[expected.stream]
         received = stream.popleft() if stream else b""
         status = max(status, int(expected.is_bad))
         if received != expected.text and expected.stream not in first_differences:
@@ -276,7 +277,7 @@ def differences(job: Job, given: bytes, result: Result) -> list[str]:
                 f"its {expected.stream}: {printable(received)}"
             )
     found = list(first_differences.values())
-    for name, stream in left.items():
+    for name, stream in unread.items():
         if stream and not first_differences:
             found.append(f"expected {name}: no more lines\nits {name}: {printable(stream[0])}")
     if result.status != status:

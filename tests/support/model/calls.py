@@ -28,7 +28,9 @@ from .methods import (
 )
 from .settings import (
     LEAST_ROUNDS,
+    LOG_N_OF_COST_0,
     MOST_ROUNDS,
+    SCRYPT_COSTS,
     Refused,
     ScryptCost,
     Setting,
@@ -49,7 +51,7 @@ from .work import (
 TEXT_SIZE = 145  # bytes: enough for any hash, setting or message
 BUDGET = 150_000_000  # enough for the hashes of these tests
 GREATEST = 2**64 - 1  # the greatest number of 64 bits
-DRAWN = 24  # bytes that mkpasswd_new asks the system for
+RANDOM_BYTES = 24  # that mkpasswd_new asks the system for
 NUMBER_SIZE = 8  # bytes of a random number
 DIGITS_OF_NUMBER = 10  # characters of a salt that one random number gives
 
@@ -154,8 +156,8 @@ class System:
         if text is None:
             raise CallRefused(Reason.NO_RANDOM_NUMBERS)
         first, second, third = (
-            int.from_bytes(text[place : place + NUMBER_SIZE], "little")
-            for place in (0, NUMBER_SIZE, 2 * NUMBER_SIZE)
+            int.from_bytes(text[start : start + NUMBER_SIZE], "little")
+            for start in (0, NUMBER_SIZE, 2 * NUMBER_SIZE)
         )
         return first, second, third
 
@@ -228,7 +230,7 @@ class Report:
         self.next_allocation()
         self.work = Work(memory=work_of_length(setting, 0, 0).memory)
         self.next_allocation()
-        self.scratch = 128 * setting.scrypt.r * setting.scrypt.p
+        self.scratch = setting.scrypt.block_size * setting.scrypt.p
         self.next_allocation()
         self.scratch = scratch_of(setting)
 
@@ -266,7 +268,8 @@ def scratch_of(setting: Setting) -> int:
     """Returns how many bytes scrypt allocates in addition to its table."""
     if setting.scrypt is None:
         return 0
-    return 128 * setting.scrypt.r * setting.scrypt.p + 256 * setting.scrypt.r
+    blocks_to_mix = 2
+    return setting.scrypt.block_size * (setting.scrypt.p + blocks_to_mix)
 
 
 def checked_password(password: bytes | None) -> bytes:
@@ -305,7 +308,7 @@ def method_of(number: int, rounds: int, *, are_clamped: bool) -> Method:
     if rounds == 0 or method is MD5CRYPT:
         return method
     if method is SCRYPT:
-        is_valid = 6 <= rounds <= 11
+        is_valid = rounds in SCRYPT_COSTS
     else:
         is_valid = are_clamped or LEAST_ROUNDS <= rounds <= MOST_ROUNDS
     if not is_valid:
@@ -505,7 +508,7 @@ class New(CallWithOut):
         limit = limit_of(method, self.rounds, self.budget, password)
         report.limit_cost(setting, len(password), limit)
         self.require_room(length_of_hash(setting))
-        report.drawn = DRAWN
+        report.drawn = RANDOM_BYTES
         salt = salt_of(report.system.numbers, method.drawn_salt)
         setting = recommended_setting(method, self.rounds, salt)
         report.give(report.hash(setting, password))
@@ -595,7 +598,7 @@ def costs_by_length(setting: Setting) -> list[int]:
 def rounds_of(setting: Setting) -> int:
     """Returns the argument `rounds` that gives new hashes this setting."""
     if setting.scrypt is not None:
-        return setting.scrypt.log_n - 7
+        return setting.scrypt.log_n - LOG_N_OF_COST_0
     return 0 if setting.method is MD5CRYPT else setting.rounds
 
 

@@ -33,6 +33,7 @@ def second_digest(method: Method, password: bytes, salt: bytes) -> bytes:
         message = password + method.prefix + salt
         of_one, of_zero = b"\0", password[:1]
     message += cycled(first, len(password))
+    # For each binary digit of the password's length, the lowest first.
     digits = f"{len(password):b}" if password else ""
     for digit in reversed(digits):
         message += of_one if digit == "1" else of_zero
@@ -43,18 +44,20 @@ def hash_by_hashlib(setting: Setting, password: bytes) -> bytes:
     """Computes an md5crypt or SHA-crypt hash with hashlib's digests."""
     method, salt = setting.method, setting.salt
     last = second_digest(method, password, salt)
-    repeated_password, repeated_salt, rounds = password, salt, 1000
+    # What the rounds digest: md5crypt takes the password and the salt themselves, SHA-crypt takes
+    # digests of them, repeated to the same lengths (Drepper's specification, steps 13 to 20).
+    of_password, of_salt, rounds = password, salt, 1000
     if method is not MD5CRYPT:
-        repeated_password = cycled(method.digest(password * len(password)), len(password))
-        repeated_salt = cycled(method.digest(salt * (16 + last[0])), len(salt))
+        of_password = cycled(method.digest(password * len(password)), len(password))
+        of_salt = cycled(method.digest(salt * (16 + last[0])), len(salt))
         rounds = setting.rounds
     for number in range(rounds):
-        middle = repeated_salt if number % 3 else b""
-        middle += repeated_password if number % 7 else b""
+        middle = of_salt if number % 3 else b""
+        middle += of_password if number % 7 else b""
         if number % 2:
-            last = method.digest(repeated_password + middle + last)
+            last = method.digest(of_password + middle + last)
         else:
-            last = method.digest(last + middle + repeated_password)
+            last = method.digest(last + middle + of_password)
     return setting.text + b"$" + packed(method, last)
 
 

@@ -3,6 +3,7 @@ from __future__ import annotations
 
 import functools
 import hashlib
+import math
 from dataclasses import dataclass
 
 ALPHABET = b"./0123456789ABCDEFGHIJKLMNOPQRSTUVWXYZabcdefghijklmnopqrstuvwxyz"
@@ -37,7 +38,7 @@ class Method:
     @functools.cached_property
     def hash_length(self) -> int:
         """How many characters follow the last dollar sign of a hash."""
-        return -(-8 * self.digest_size // BITS_OF_DIGIT)
+        return math.ceil(8 * self.digest_size / BITS_OF_DIGIT)
 
     @functools.cached_property
     def last_digits(self) -> bytes:

@@ -21,7 +21,13 @@ LEAST_ROUNDS = 1000
 MOST_ROUNDS = 999_999_999
 UNWRITTEN_ROUNDS = 5000
 SCRYPT_CEILING = 8_388_608  # the greatest N * r * p
+# The costs that new scrypt hashes can have. With cost C, N is 2^(C + LOG_N_OF_COST_0).
+SCRYPT_COSTS = range(6, 12)
+LOG_N_OF_COST_0 = 7
+R_OF_NEW, P_OF_NEW = 32, 1
 SHA_CRYPT = (SHA256CRYPT, SHA512CRYPT)
+# Characters outside printable ASCII, a space, and those that mean something in password files.
+BAD_CHARACTER = re.compile(rb"[^\x21-\x7e]|[:;*!\\]")
 
 SETTING_REFUSALS = (
     "setting too long",
@@ -51,6 +57,11 @@ class ScryptCost:
     def text(self) -> bytes:
         """The eleven characters that encode these numbers in a setting."""
         return numeral(self.log_n, 1) + numeral(self.r, 5) + numeral(self.p, 5)
+
+    @property
+    def block_size(self) -> int:
+        """The bytes of a block of scrypt, which is also a row of its table (RFC 7914)."""
+        return 128 * self.r
 
     @property
     def product(self) -> int:
@@ -113,7 +124,7 @@ def read_setting(text: bytes) -> Setting:
     """Returns the setting that a text begins with."""
     if len(text) > LONGEST_SETTING:
         raise Refused("setting too long")
-    if re.search(rb"[^\x21-\x7e]|[:;*!\\]", text):
+    if BAD_CHARACTER.search(text):
         raise Refused("bad character")
     method, rest = BY_PREFIX.get(text[:3]), text[3:]
     if method is None:
@@ -142,7 +153,8 @@ def read_scrypt(text: bytes) -> Setting:
         raise Refused("bad cost")
     cost = ScryptCost(number_of(match[1]), number_of(match[2]), number_of(match[3]))
     salt = match[4]
-    if 0 in (cost.log_n, cost.r, cost.p) or cost.log_n >= 16 * cost.r:
+    is_n_too_large = cost.log_n >= 16 * cost.r  # RFC 7914: N must be below 2^(128 * r / 8)
+    if 0 in (cost.log_n, cost.r, cost.p) or is_n_too_large:
         raise Refused("scrypt range")
     if cost.product > SCRYPT_CEILING:
         raise Refused("above ceiling")
@@ -159,8 +171,8 @@ def setting_of_options(method: Method, cost: int | None, salt: bytes | None) -> 
     if salt is None:
         salt = b"." * method.drawn_salt
     if method is SCRYPT:
-        log_n = (cost or SCRYPT.recommended) + 7
-        return Setting(SCRYPT, salt, scrypt=ScryptCost(log_n, r=32, p=1))
+        log_n = (cost or SCRYPT.recommended) + LOG_N_OF_COST_0
+        return Setting(SCRYPT, salt, scrypt=ScryptCost(log_n, R_OF_NEW, P_OF_NEW))
     if method is MD5CRYPT or not cost:
         return Setting(method, salt)
     return Setting(method, salt, clamped_rounds(cost))

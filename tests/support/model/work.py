@@ -1,4 +1,7 @@
-"""The work of a hash, which --work prints, and its cost, which is compared with a budget."""
+"""The work of a hash, which --work prints, and its cost, which is compared with a budget.
+
+docs/FORMATS.md has the formulas, and says what each term counts.
+"""
 from __future__ import annotations
 
 from dataclasses import dataclass, replace
@@ -11,6 +14,7 @@ LONGEST_PASSWORD = 1024
 LEAST_LOGIN_LIMIT = 150_000_000
 USUAL_LONGEST_PASSWORD = 64  # a limit is twice the cost of hashing a password of this length
 HIGHEST_BYTE = 255
+LONGEST_HMAC_KEY = 64  # bytes; HMAC digests a longer key first
 
 
 @dataclass(frozen=True)
@@ -44,8 +48,9 @@ def binary_digits(length: int) -> str:
 def md5crypt_work(salt: int, password: int) -> Work:
     """Returns the work of md5crypt with a salt and a password of these lengths."""
     two_messages = 2 * (2 * password + salt) + 3 + len(binary_digits(password))
+    # 666 of the 1000 rounds also digest the salt, and 857 the password a second time.
     rounds = 1000 * (16 + password) + 666 * salt + 857 * password
-    return Work(1002, two_messages + rounds)
+    return Work(digests=2 + 1000, hashed=two_messages + rounds)
 
 
 def sha_crypt_work(setting: Setting, password: int, first_byte: int) -> Work:
@@ -58,23 +63,24 @@ def sha_crypt_work(setting: Setting, password: int, first_byte: int) -> Work:
     two_messages = 2 * (2 * password + salt)
     two_messages += digits.count("1") * width + digits.count("0") * password
     repeated = password * password + salt * (16 + first_byte)
-    of_rounds = rounds * (width + password)
-    of_rounds += salt * (rounds - (rounds + 2) // 3)
-    of_rounds += password * (rounds - (rounds + 6) // 7)
-    return Work(rounds + 4, two_messages + repeated + of_rounds)
+    thirds, sevenths = (rounds + 2) // 3, (rounds + 6) // 7  # rounded up
+    in_rounds = rounds * (width + password)
+    in_rounds += salt * (rounds - thirds)
+    in_rounds += password * (rounds - sevenths)
+    return Work(digests=4 + rounds, hashed=two_messages + repeated + in_rounds)
 
 
 def scrypt_work(setting: Setting, password: int) -> Work:
-    """Returns scrypt's work with a password of this length. HMAC digests a long password first."""
+    """Returns scrypt's work with a password of this length, which is the key of HMAC."""
     numbers = setting.scrypt_cost
     salt, blocks = len(setting.salt), numbers.r * numbers.p
-    is_long = password > 64
+    is_long = password > LONGEST_HMAC_KEY
     hashed = 4 * blocks * (164 + salt) + 164 + 128 * blocks
     return Work(
         digests=8 * blocks + (3 if is_long else 2),
         hashed=hashed + (password if is_long else 0),
         mixings=2 * numbers.product // numbers.r,
-        memory=128 * numbers.r << numbers.log_n,
+        memory=numbers.block_size << numbers.log_n,
     )
 
 
@@ -98,7 +104,7 @@ def work_of(setting: Setting, password: bytes) -> Work:
 def cost(setting: Setting, password: int) -> int:
     """Returns the most that hashing a password of this length can cost."""
     work = work_of_length(setting, password, HIGHEST_BYTE)
-    mixed = 0 if setting.scrypt is None else 128 * setting.scrypt.r * work.mixings
+    mixed = 0 if setting.scrypt is None else setting.scrypt.block_size * work.mixings
     return work.hashed + mixed
 
 

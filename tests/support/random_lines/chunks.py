@@ -21,7 +21,7 @@ Kind = Literal["hash", "hostile"]
 SIZES: dict[Kind, list[int]] = {"hash": [100], "hostile": [40] * 20 + [800]}
 HIGHEST_COST = 500_000  # hostile lines that cost more are not hashed
 HIGHEST_AUDIT_BUDGET = 10**13
-GOOD_HASHES = 16
+GOOD_HASHES = 16  # how many hashes the lines of a hostile chunk share
 
 
 @dataclass(frozen=True)
@@ -88,11 +88,11 @@ def hash_tasks(source: Source, method: Method, count: int) -> Iterator[Task]:
             name = source.bytes_except(source.between(1, 64), b":\n")
             named_hashes.append((name, KnownHash(text, password)))
     if batch:
-        yield Task(
-            batch, b"".join(b"%b:%b\n" % (name, hash.password) for name, hash in named_hashes)
-        )
+        new_lines = [b"%b:%b\n" % (name, known.password) for name, known in named_hashes]
+        yield Task(batch, b"".join(new_lines))
     lines = [line_to_check(source, *named) for named in source.shuffled(named_hashes)]
-    yield Task(Job(Mode.CHECK, shows_work=shows_work), joined(source, lines, 0.5))
+    given = joined(source, lines, without_line_feed=0.5)
+    yield Task(Job(Mode.CHECK, shows_work=shows_work), given)
 
 
 def batch_job(source: Source, method: Method, shows_work: bool) -> Job:
@@ -148,7 +148,7 @@ def hostile_task(source: Source, count: int) -> Task:
     hashes = [] if mode is Mode.BATCH else good_hashes(source)
     lines = [hostile_line(source, job, hashes) for _ in range(count)]
     job = replace(job, budget=budget(source, job, lines), first_line=source.between(1, 2**32 - 1))
-    return Task(job, joined(source, lines, 0.3))
+    return Task(job, joined(source, lines, without_line_feed=0.3))
 
 
 def options_of_new_hash(source: Source) -> NewHash:
@@ -220,6 +220,7 @@ def budget(source: Source, job: Job, lines: Sequence[bytes]) -> int | None:
         return source.one_of(*below_highest) - source.one_of(0, 0, 0, 0, 1, 1, 1)
     if source.chance(0.67):
         return highest
+    # From 1 to the highest, with each magnitude equally often.
     return int(math.exp(source.random.random() * math.log(highest)))
 
 

@@ -160,7 +160,8 @@ def field(source: Source) -> bytes:
     if prefix == b"$7$":
         text += scrypt_field(source)
     else:
-        if b"5" in prefix or b"6" in prefix or source.chance(0.1):
+        is_like_sha_crypt = b"5" in prefix or b"6" in prefix
+        if is_like_sha_crypt or source.chance(0.1):
             text += rounds(source)
         length = source.one_of(0, 1, 7, 8, 9, 10, 15, 16, 17, 18, source.between(0, 30))
         text += salt(source, length)

@@ -14,9 +14,11 @@ FRAGMENTS = [
     *(b"rounds=1000$", b"$1$", b"$5$", b"$6$", b"$7$", b"0", b"00", b"9", b"999999999", b" "),
     *(b"\t", b"\x7f", b"\\", b";", b".", b"/"),
 ]
-# Prefixes that a long salt can follow, and beginnings of fields whose rest is ignored.
+# Beginnings of fields that a long salt, or a long text in place of a digest, can follow.
 LONG_STARTS = [b"$1$", b"$5$", b"$5$rounds=1$", b"$9$", b"$7$2/..../....ab$"]
+# Beginnings of fields to fill up to the limit.
 REPEATED_STARTS = [b"$1$ab$", b"$6$rounds=1000$ab$", b"$6$rounds=0$", b"$7$", b"*"]
+# Costs of scrypt: mostly a valid one, sometimes one out of its range or above the ceiling.
 SCRYPT_STARTS = [b"$7$0/..../...."] * 4 + [b"$7$./..../....", b"$7$J6..../...."]
 SHORT_LINES = [
     *(b"", b":", b"::", b":::", b":x", b":$1$a:", b"\0", b"\r", b"n", b"n:", b"n::", b"n:::"),
@@ -55,13 +57,15 @@ def stored_line(source: Source, job: Job, hashes: Sequence[KnownHash]) -> bytes:
     """Returns a line with a name, a stored field and a password."""
     known = source.one_of(*hashes)
     text, password = known.text, known.password
-    changed = 24 if job.mode is Mode.AUDIT else 10
+    # An audit looks only at the field, so more of its lines have a changed hash.
+    weight_of_changed = 24 if job.mode is Mode.AUDIT else 10
+    weight_of_any = 49 - weight_of_changed
     return source.by_weight(
         (15, lambda: mutated_known(source, known)),
         (16, lambda: joined(source, text, password)),
         (4, lambda: joined(source, text, names.wrong_password(source, password))),
-        (changed, lambda: joined(source, fields.changed_hash(source, text), password)),
-        (49 - changed, lambda: joined(source, any_field(source, text), names.password(source))),
+        (weight_of_changed, lambda: joined(source, fields.changed_hash(source, text), password)),
+        (weight_of_any, lambda: joined(source, any_field(source, text), names.password(source))),
     )
 
 
@@ -101,10 +105,13 @@ def line_at_a_limit(source: Source, job: Job) -> bytes:
 def any_line_at_a_limit(source: Source, field: bytes) -> bytes:
     """Returns a line whose name, password or length is at a limit, with this field."""
     ways: list[Callable[[], bytes]] = [
+        # names
         lambda: source.characters(source.between(63, 66), b"n\xc3") + b":" + field + b"x",
         lambda: source.characters(source.between(63, 66), b"n") + source.one_of(b"", b":"),
+        # passwords
         lambda: b"n:" + field + source.characters(source.between(1023, 1026), b"p:"),
         lambda: b"n:" + field + b"p" * source.between(1022, 1025) + b"\0",
+        # whole lines
         lambda: long_line(source, field, source.one_of(b"p", b":"), source.between(2040, 2050)),
         lambda: long_line(source, field, source.pieces(50, FRAGMENTS), source.between(50, 1500)),
     ]
@@ -179,13 +186,13 @@ def mutated_once(source: Source, line: bytes) -> bytes:
     length = source.between(1, source.one_of(1, 4, 40))
     before, after = line[:place], line[place:]
     ways: list[Callable[[], bytes]] = [
-        lambda: before + with_another_bit(source, after[:1]) + after[1:],
-        lambda: before + after[length:],
-        lambda: before + source.one_of(*FRAGMENTS) + after,
-        lambda: before + after[:length] + after,
-        lambda: source.one_of(before, after),
-        lambda: before + source.one_of(*FRAGMENTS) * many(source) + after,
-        lambda: line.replace(b":", source.one_of(b"", b"::", b";", b"\0:"), 1),
+        lambda: before + with_another_bit(source, after[:1]) + after[1:],  # a flipped bit
+        lambda: before + after[length:],  # removed bytes
+        lambda: before + source.one_of(*FRAGMENTS) + after,  # an inserted fragment
+        lambda: before + after[:length] + after,  # repeated bytes
+        lambda: source.one_of(before, after),  # only one end of the line
+        lambda: before + source.one_of(*FRAGMENTS) * many(source) + after,  # a repeated fragment
+        lambda: line.replace(b":", source.one_of(b"", b"::", b";", b"\0:"), 1),  # the first colon
     ]
     return source.one_of(*ways)()
 

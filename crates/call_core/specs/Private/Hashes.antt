@@ -25,8 +25,8 @@ abbrev pub MakesHash : List ℕ → SettingValue → ℕ → ℕ → Result (Lis
 MakesHash password kept budget room made =
     let text = crypt password kept in
     MatchResult (admission budget room password kept)
-    (λ most. (made ≡ Ok (text, succeeded (length text) most (work password kept)))
-    ⊎ ((report : Report) × (made ≡ Err report) × LacksMemory kept most report))
+    (λ hash_cost. (made ≡ Ok (text, succeeded (length text) hash_cost (work password kept)))
+    ⊎ ((report : Report) × (made ≡ Err report) × LacksMemory kept hash_cost report))
     (λ refusal. made ≡ Err refusal)
 
 -- MakesHashOf password text budget room made: `made` is the hash with the setting in `text`, or the report of the first
@@ -45,20 +45,20 @@ MakesHashAnew password number rounds numbers budget room made =
     MatchBool (length numbers == 3)
     (MakesHash password (salted scheme numbers) budget room made)
     (MatchResult (admission budget room password (salted scheme (0 ∷ 0 ∷ 0 ∷ [])))
-    (λ most. made ≡ Err (refused NoRandomNumbers most))
+    (λ hash_cost. made ≡ Err (refused NoRandomNumbers hash_cost))
     (λ refusal. made ≡ Err refusal))))
 
--- IsTold budget room done made: what the report in `made` says, where `done` is everything that the meter counted.
+-- IsReported budget room done made: what the report in `made` says, where `done` is everything that the meter counted.
 -- Either a hash was made that costs at most the budget and fits, with a zero byte, into `room` bytes; or no hash was
 -- made, and the report has an error. The reported work is `done`.
-abbrev pub IsTold : ℕ → ℕ → Work → Result (List ℕ × Report) Report → Type 0
-IsTold budget room done (Ok (text, report)) =
+abbrev pub IsReported : ℕ → ℕ → Work → Result (List ℕ × Report) Report → Type 0
+IsReported budget room done (Ok (text, report)) =
     (report.error ≡ 0) × (report.length ≡ length text) × (length text < room) × (report.cost ≤ budget)
     × (done ≡ report.work)
-IsTold budget room done (Err report) = (report.error ≢ 0) × (done ≡ report.work)
+IsReported budget room done (Err report) = (report.error ≢ 0) × (done ≡ report.work)
 
 -- IsPut made lock old report new: the call returns the report in `made`, and writes the hash in it to `out`, or `lock`
 -- after a refusal.
 abbrev pub IsPut : Result (List ℕ × Report) Report → List ℕ → List ℕ → Report → List ℕ → Type 0
-IsPut (Ok (text, told)) lock old report new = Leaves told text old report new
+IsPut (Ok (text, reported)) lock old report new = Leaves reported text old report new
 IsPut (Err refusal) lock old report new = Leaves refusal lock old report new

@@ -3,4 +3,4 @@
 use Rattle.crypt_c.proofs.mkpasswd_limit_bytes.Goals as goal
 
 pub returns-clause-limits : goal.returns-clause-limits
-returns-clause-limits c = rw (c.tell.ensures.told, ← c.of.ensures) c.report_limit.ensures.limits
+returns-clause-limits c = rw (c.write_report.ensures.reported, ← c.of.ensures) c.report_limit.ensures.limits

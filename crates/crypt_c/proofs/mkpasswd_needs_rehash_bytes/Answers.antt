@@ -3,4 +3,4 @@
 use Rattle.crypt_c.proofs.mkpasswd_needs_rehash_bytes.Goals as goal
 
 pub returns-clause-rehashes : goal.returns-clause-rehashes
-returns-clause-rehashes c = rw c.tell_outdated.ensures.told c.report_rehash.ensures.rehashes
+returns-clause-rehashes c = rw c.write_report_is_outdated.ensures.reported c.report_rehash.ensures.rehashes

@@ -2,4 +2,4 @@
 use Rattle.crypt_c.proofs.mkpasswd_proved_hash.Goals as goal
 
 pub returns-clause-hashes : goal.returns-clause-hashes
-returns-clause-hashes c = rw c.tell.ensures.told c.put_hash-told.ensures.hashes
+returns-clause-hashes c = rw c.write_report.ensures.reported c.put_hash-reported.ensures.hashes

@@ -44,7 +44,8 @@ HasNumerals cost = (cost.log_n < 64) × (cost.r < 2 ^ 30) × (cost.p < 2 ^ 30)
 abbrev pub HasNumbers : List ℕ → ScryptParams → Type 0
 HasNumbers after cost = (rest : List ℕ) × (after ≡ scrypt_part cost ++ rest) × HasNumerals cost
 
--- LacksCharacters after: `after` begins with fewer characters of crypt's alphabet than scrypt's cost part has.
+-- LacksCharacters after: `after` begins with fewer characters of crypt's alphabet than scrypt's cost part has
+-- (`scrypt_part_len`).
 abbrev pub LacksCharacters : List ℕ → Type 0
 LacksCharacters after = (part rest : List ℕ) → length part ≡ scrypt_part_len → All (Contains alphabet) part → after ≡ part ++ rest → ⊥
 

@@ -56,7 +56,7 @@ pub enum MakeFault {
     SaltLength,
     /// The salt has a byte outside crypt's alphabet.
     SaltCharacter,
-    /// The method is scrypt, and the cost is neither 0 nor from 6 to 11.
+    /// The method does not accept the rounds. Only scrypt refuses some ([`Scheme::made`](crate::scheme::Scheme::made)).
     Cost,
 }
 

@@ -1,4 +1,4 @@
-//! Makes settings from a method, a cost and a salt.
+//! Makes settings from a method, rounds and a salt.
 
 ghost use Rattle.std.specs.Prelude.{◌≡◌, ℕ, ◌↔◌, Some, IsOk, IfOk, IfErr, OnOk};
 ghost use Rattle.crypt_core.specs.declared.setting.fault.MakeFault.{MakeFault as Fault};
@@ -14,13 +14,13 @@ use crate::scheme::Scheme;
 use arrayvec::ArrayVec;
 
 impl Setting {
-    /// Returns the setting of a method with a cost and a given salt.
+    /// Returns the setting of a method with these rounds and a given salt.
     ///
-    /// Cost 0 is the method's default. For SHA-crypt any other cost is a number of rounds, clamped to 1000..999999999,
-    /// with a `rounds=` field. For scrypt it is 6 to 11 (`N = 2^(cost + 7)`, r = 32, p = 1). md5crypt ignores it. The
-    /// salt has characters of crypt's alphabet, at least one and at most as many as the method keeps (8, 16, 16 or 86).
+    /// `cost` (the number after `-R`) gives the rounds, as [`Scheme::made`] takes them. The salt has characters of
+    /// crypt's alphabet, at least one and at most as many as the method keeps (8, 16, 16 or 86).
     ///
-    /// For example, the setting of sha512crypt with cost 1 and the salt `ab` is `$6$rounds=1000$ab`.
+    /// For example, the setting of sha512crypt with rounds of 1, which are clamped, and the salt `ab` is
+    /// `$6$rounds=1000$ab`.
     ///
     /// # Errors
     ///
@@ -28,7 +28,7 @@ impl Setting {
     ///
     /// - `SaltLength`: the salt is empty, or has more characters than the method keeps.
     /// - `SaltCharacter`: the salt has a byte outside crypt's alphabet.
-    /// - `Cost`: the method is scrypt, and the cost is neither 0 nor from 6 to 11.
+    /// - `Cost`: the method does not accept the rounds.
     pub fn make(method: Method, cost: u32, salt: &[u8]) -> Result<Setting, MakeFault>
         ensures made { IfOk result (λ setting. setting ≡ record { scheme = made_scheme method cost; salt = salt.now }) }
         ensures accepted { IsOk result ↔ ((fault : Fault) → ¬ BreaksMake method cost (Some salt.now) fault) }

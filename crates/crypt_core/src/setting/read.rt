@@ -17,7 +17,7 @@ ghost use Rattle.crypt_core.specs.Rounds.{max_rounds};
 ghost use Rattle.crypt_core.specs.TextLimits.{scrypt_part_len};
 
 use super::fault::SettingFault;
-use super::{COST_CHARACTERS, ROUNDS_WORD, SETTING_LIMIT, Setting, in_alphabet};
+use super::{ROUNDS_WORD, SCRYPT_PART_LEN, SETTING_LIMIT, Setting, in_alphabet};
 use crate::method::{Method, SCRYPT_SALT_LIMIT};
 use crate::scheme::{MAX_ROUNDS, Rounds, Scheme, Sha};
 use arrayvec::ArrayVec;
@@ -92,7 +92,7 @@ fn scheme_at(text: &[u8]) -> Result<(Scheme, &[u8]), SettingFault>
     }
     if let Some(after) = after_prefix(text, Method::Scrypt) {
         let params = params_at(after)?;
-        return Ok((Scheme::Scrypt(params), &after[COST_CHARACTERS..]));
+        return Ok((Scheme::Scrypt(params), &after[SCRYPT_PART_LEN..]));
     }
     Err(SettingFault::UnknownScheme)
 }
@@ -176,19 +176,19 @@ fn params_at(after: &[u8]) -> Result<Params, SettingFault>
     }
 }
 
-// Returns log2 N, r and p, which the first 11 characters encode, or `None` if these are not 11 characters of crypt's
-// alphabet.
+// Returns log2 N, r and p, which the first 11 characters encode (one, five and five of them), or `None` if these are
+// not 11 characters of crypt's alphabet.
 fn numbers_at(after: &[u8]) -> Option<(u8, u32, u32)>
     ensures none { IfNone result (LacksCharacters after.now) }
     ensures long { OnSome result (scrypt_part_len ≤ length after.now) }
     ensures some { IfSome result (λ x. HasNumbers after.now (scrypt_params x.0 x.1 x.2)) }
 {
-    if after.len() < COST_CHARACTERS {
+    if after.len() < SCRYPT_PART_LEN {
         return None;
     }
     let log_n = value_of(after[0])?;
     let r = read_30(&after[1..6])?;
-    let p = read_30(&after[6..COST_CHARACTERS])?;
+    let p = read_30(&after[6..SCRYPT_PART_LEN])?;
     Some((log_n, r, p))
 }
 

@@ -32,8 +32,7 @@ impl Setting {
     }
 }
 
-// Appends the part of a setting that spells the scheme's cost: a `rounds=` field, or scrypt's 11 characters, or
-// nothing.
+// Appends the cost part of a setting: a `rounds=` field, or the 11 characters of scrypt's N, r and p, or nothing.
 fn append_cost(text: &mut ArrayVec<u8, TEXT_CAPACITY>, scheme: &Scheme)
     requires room { array_vec_len text.old + length (cost_part scheme.now) ≤ TEXT_CAPACITY }
     ensures { text.new.items ≡ text.old.items ++ cost_part scheme.now }

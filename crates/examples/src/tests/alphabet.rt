@@ -17,6 +17,7 @@ fn characters_and_values(rt: HostRuntime) {
         (38, b'a'),
         (63, b'z'),
     ] {
+        // The prover needs this bound, which `char_of` requires.
         assert!(rt; value < 64);
         assert_eq!(rt;
             (char_of(value), value_of(character)),

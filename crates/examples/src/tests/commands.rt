@@ -16,16 +16,21 @@ use std::test::Fail;
 
 // What a command left: its exit status, its output, its messages on standard error, and whether it hashed nothing.
 #[derive(Drop)]
-pub struct Left {
+pub struct Outcome {
     status: u8,
     out: Vec<u8>,
     faults: Vec<u8>,
-    is_free: bool,
+    hashed_nothing: bool,
 }
 
-// Runs a command that may make at most `turns` I/O calls.
-fn left_within(alloc: Global, words: &[&str], input: &[u8], turns: u64) -> Result<Left, Fail>
-    requires { turns ≤ 2 ^ 40 }
+// Runs a command that may make at most `io_call_limit` I/O calls.
+fn run_within(
+    alloc: Global,
+    words: &[&str],
+    input: &[u8],
+    io_call_limit: u64,
+) -> Result<Outcome, Fail>
+    requires { io_call_limit ≤ 2 ^ 40 }
 {
     let mut arguments = Vec::new(alloc);
     for word in words {
@@ -45,22 +50,22 @@ fn left_within(alloc: Global, words: &[&str], input: &[u8], turns: u64) -> Resul
         &mut generator,
         &mut make,
         &mut meter,
-        turns,
+        io_call_limit,
     );
-    Ok(Left {
+    Ok(Outcome {
         status,
         out: out.into_inner(),
         faults: faults.into_inner(),
-        is_free: meter.digests() == 0 && meter.bytes() == 0 && meter.table() == 0,
+        hashed_nothing: meter.digests() == 0 && meter.bytes() == 0 && meter.table() == 0,
     })
 }
 
 /// Runs a command with the greatest limit on its I/O calls.
-pub fn left_by(alloc: Global, words: &[&str], input: &[u8]) -> Result<Left, Fail> {
-    left_within(alloc, words, input, 1 << 40)
+pub fn run(alloc: Global, words: &[&str], input: &[u8]) -> Result<Outcome, Fail> {
+    run_within(alloc, words, input, 1 << 40)
 }
 
-impl Left {
+impl Outcome {
     /// Asserts the exit status, the output and the messages on standard error. `what` names the case.
     pub fn want(&self, rt: &impl Abort, what: &str, status: u8, out: &str, faults: &str) {
         let told = (self.status, self.out.as_slice(), self.faults.as_slice());
@@ -81,8 +86,8 @@ type Row<'a> = (&'a [&'a str], &'a str, u8, &'a str, &'a str);
 // Asserts that the command of each row leaves what the row says.
 fn want_all(rt: &impl Abort, alloc: Global, rows: &[Row]) -> Result<(), Fail> {
     for &(words, input, status, out, faults) in rows {
-        let left = left_by(alloc, words, input.as_bytes())?;
-        left.want(rt, input, status, out, faults);
+        let outcome = run(alloc, words, input.as_bytes())?;
+        outcome.want(rt, input, status, out, faults);
     }
     Ok(())
 }
@@ -135,8 +140,8 @@ fn one_password(rt: HostRuntime) -> Result<(), Fail> {
         ),
     ];
     for &(words, input, out) in rows {
-        let left = left_by(rt.alloc(), words, input.as_bytes())?;
-        left.want(&rt, out, 0, out, "");
+        let outcome = run(rt.alloc(), words, input.as_bytes())?;
+        outcome.want(&rt, out, 0, out, "");
     }
     Ok(())
 }
@@ -192,8 +197,8 @@ fn refused_arguments(rt: HostRuntime) -> Result<(), Fail> {
         (&["-m", "scrypt", "-R", "12", "x"], "mkpasswd: cost\n"),
     ];
     for &(words, message) in rows {
-        let left = left_by(rt.alloc(), words, b"")?;
-        left.want(&rt, message, 2, "", message);
+        let outcome = run(rt.alloc(), words, b"")?;
+        outcome.want(&rt, message, 2, "", message);
     }
     Ok(())
 }
@@ -323,7 +328,8 @@ fn lines_to_check(rt: HostRuntime) -> Result<(), Fail> {
     want_all(&rt, rt.alloc(), rows)
 }
 
-// A line that can cost more than the budget is refused, and nothing is hashed.
+// A line that can cost more than the budget is refused, and nothing is hashed. With `--rehash`, the budget must cover
+// both the check and the new hash: here 33656996 and 36239, together 33693235.
 #[test]
 fn budgets(rt: HostRuntime) -> Result<(), Fail> {
     const ANN_LINE: &str = "ann:$1$xxxxxxxx$UYCIxa628.9qXjpQCjM4a.:password";
@@ -359,20 +365,21 @@ fn budgets(rt: HostRuntime) -> Result<(), Fail> {
         (ENOUGH, WRONG, 1, "z:no:1026:102564:32768:1048576\n"),
     ];
     for &(words, input, status, out) in rows {
-        let left = left_by(rt.alloc(), words, input.as_bytes())?;
+        let outcome = run(rt.alloc(), words, input.as_bytes())?;
         let faults = if out.is_empty() {
             "mkpasswd: line 1: over budget\n"
         } else {
             ""
         };
-        left.want(&rt, input, status, out, faults);
-        let is_free = out.is_empty() || out == "b:locked\n";
-        want(&rt, left.is_free, is_free, input);
+        outcome.want(&rt, input, status, out, faults);
+        let hashed_nothing = out.is_empty() || out == "b:locked\n";
+        want(&rt, outcome.hashed_nothing, hashed_nothing, input);
     }
     Ok(())
 }
 
-// A line as long as the limit and longer ones, whose names are too long too, and a password of one byte too many.
+// Lines of the greatest length and longer ones, and a password of one byte too many. The lines have no colon, so each
+// has a name that is too long, but the length of the line is checked first.
 #[test]
 fn long_inputs(rt: HostRuntime) -> Result<(), Fail> {
     const ONE: &[&str] = &["-s"];
@@ -386,8 +393,8 @@ fn long_inputs(rt: HostRuntime) -> Result<(), Fail> {
     ];
     for &(words, count, back, status, out, faults) in rows {
         let input = padded(rt.alloc(), b"", b'a', count, back.as_bytes())?;
-        let left = left_by(rt.alloc(), words, input.as_slice())?;
-        left.want(&rt, faults, status, out, faults);
+        let outcome = run(rt.alloc(), words, input.as_slice())?;
+        outcome.want(&rt, faults, status, out, faults);
     }
     Ok(())
 }
@@ -397,24 +404,25 @@ fn long_inputs(rt: HostRuntime) -> Result<(), Fail> {
 fn a_long_password(rt: HostRuntime) -> Result<(), Fail> {
     for count in [512, 1024] {
         let input = padded(rt.alloc(), b"", b'a', count, b"\nb")?;
-        let left = left_by(rt.alloc(), &["-s"], input.as_slice())?;
-        let out = left.out.as_slice();
+        let outcome = run(rt.alloc(), &["-s"], input.as_slice())?;
+        let out = outcome.out.as_slice();
         assert_eq!(rt;
             (
-                left.status,
+                outcome.status,
                 out.len(),
                 out.starts_with(b"$6$"),
                 out.ends_with(b"\n")
             ),
             (0, 107, true, true)
         );
-        assert_eq!(rt; left.faults.as_slice(), b"".as_slice());
+        assert_eq!(rt; outcome.faults.as_slice(), b"".as_slice());
     }
     Ok(())
 }
 
+// A command that needs more I/O calls than it may make ends with status 3.
 #[test]
-fn turns(rt: HostRuntime) -> Result<(), Fail> {
+fn io_call_limits(rt: HostRuntime) -> Result<(), Fail> {
     const ONE: &[&str] = &["-m", "md5crypt", "-S", "xxxxxxxx", "password"];
     const NONE: &str = "mkpasswd: too many turns\n";
     let rows: &[(&[&str], &str, u64, u8, &str, &str)] = &[
@@ -424,10 +432,11 @@ fn turns(rt: HostRuntime) -> Result<(), Fail> {
         (ONE, "", 0, 3, "", NONE),
         (ONE, "", 1, 0, HASH, ""),
     ];
-    for &(words, input, turns, status, out, faults) in rows {
-        assert!(rt; turns <= 1);
-        let left = left_within(rt.alloc(), words, input.as_bytes(), turns)?;
-        left.want(&rt, input, status, out, faults);
+    for &(words, input, io_call_limit, status, out, faults) in rows {
+        // The prover needs a bound: `run_within` requires at most 2^40 I/O calls.
+        assert!(rt; io_call_limit <= 1);
+        let outcome = run_within(rt.alloc(), words, input.as_bytes(), io_call_limit)?;
+        outcome.want(&rt, input, status, out, faults);
     }
     Ok(())
 }

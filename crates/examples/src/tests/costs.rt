@@ -39,6 +39,7 @@ fn bounds(rt: HostRuntime) -> Result<(), Fail> {
             [66, 6884, 32768, 16777216, 3072],
         ),
     ] {
+        // The prover needs this bound, which `bound` requires.
         assert!(rt; length <= 1024);
         let work = bound(&Setting::read(text.as_bytes())?, length);
         let told = [
@@ -53,7 +54,8 @@ fn bounds(rt: HostRuntime) -> Result<(), Fail> {
     Ok(())
 }
 
-// The number of digests does not depend on the length of the password.
+// The number of digests does not depend on the length of the password. The rounds are clamped to 999999999, and
+// SHA-crypt makes four digests before the first round.
 #[test]
 fn digests_of_many_rounds(rt: HostRuntime) -> Result<(), Fail> {
     let setting = Setting::read(b"$5$rounds=123456789012$ab")?;
@@ -72,6 +74,7 @@ fn costs(rt: HostRuntime) -> Result<(), Fail> {
         ("$7$86....E....NaCl", 8, 33656996),
         ("$7$C6..../....SodiumChloride", 13, 33561316),
     ] {
+        // The prover needs this bound, which `cost` requires.
         assert!(rt; length <= 1024);
         let setting = Setting::read(text.as_bytes())?;
         want(&rt, cost(&setting, length), wanted, text);

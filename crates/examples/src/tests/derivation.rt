@@ -1,4 +1,5 @@
-//! Tests of HMAC, PBKDF2 and scrypt, and of the work that each counts.
+//! Tests of HMAC, PBKDF2 and scrypt, and of the work that each counts. Asserts of sizes and rounds give the prover what
+//! the functions called after them require, such as room in the meter.
 
 use super::{counts, want};
 use kdf_core::hmac::HmacKey;
@@ -12,7 +13,7 @@ use std::alloc::Global;
 use std::process::Abort;
 use std::test::Fail;
 
-// Keys, texts and tags of the test cases 1 to 4, 6 and 7 in RFC 4231, section 4.
+// Keys, texts and tags of the test cases 1 to 4, 6 and 7 in RFC 4231, section 4. Case 5 truncates its tag.
 const TAGS: &[(&[u8], &[u8], &str)] = &[
     (
         &[0x0b; 20],
@@ -251,10 +252,9 @@ struct Row {
     wanted: &'static str,
 }
 
-// The first three are from RFC 7914, section 12, whose fourth vector needs a table of 1 GiB, too much for a test. The
-// fourth is the first with half of its bytes. The others come from Python's `hashlib`: 64 and 65 bytes of password, as
-// HMAC digests a longer key than 64 bytes; N of 2; a result that ends in a part of a block; no bytes; many parts; and a
-// part of many blocks.
+// The first three are from RFC 7914, section 12, whose fourth vector needs a table of 1 GiB. The fourth is the first
+// with half of its bytes. The others come from Python's `hashlib`: passwords of 64 and 65 bytes, as HMAC digests a key
+// above 64 bytes; N of 2; a result that ends in a part of a block; no bytes; many parts; a part of many blocks.
 const ROWS: &[Row] = &[
     Row {
         password: b"",
@@ -429,7 +429,7 @@ fn want_lent(
     Ok(())
 }
 
-// scrypt in lent memory: exactly as much as it needs, which does not hold zeros, and a word or a byte less.
+// Runs scrypt in exactly as much lent memory as it needs, filled with ones, not zeros, and in a word or a byte less.
 #[test]
 fn bytes_by_scrypt_in_lent_memory(rt: HostRuntime) -> Result<(), Fail> {
     let alloc = rt.alloc();

@@ -20,6 +20,7 @@ fn want_digest<C: Counted>(
     (first, second): (&[u8], &[u8]),
     wanted: &str,
 ) -> Result<(), Fail> {
+    // The prover needs these bounds, because `feed` requires that the meter can count the bytes.
     assert!(rt; first.len() <= 3 && second.len() <= 3);
     let mut meter = Meter::new();
     let mut running = C::begin();

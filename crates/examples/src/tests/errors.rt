@@ -135,8 +135,8 @@ fn errors_of_arguments(rt: HostRuntime) -> Result<(), Fail> {
     Ok(())
 }
 
-// Asserts how the message of `clap` for this argument begins, and its exit status. The error's `text` is empty, because
-// the program prints the message of `clap`.
+// Asserts how `clap`'s message for this argument begins, that it has more than 10 bytes, and the exit status. The
+// error's `text` is empty, because the program prints `clap`'s message.
 fn want_clap(
     rt: &impl Abort,
     alloc: Global,

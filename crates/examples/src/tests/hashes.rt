@@ -60,8 +60,8 @@ fn packed_digests(rt: HostRuntime) -> Result<(), Fail> {
     Ok(())
 }
 
-// The hashes come from openssl-passwd(1), Drepper's specification and RFC 7914's vectors. The counts of SHA-crypt's
-// work that depend on a digest come from a Python program.
+// The hashes come from openssl-passwd(1), Drepper's specification and RFC 7914's vectors, and the last one from
+// Python's `hashlib`. The counts of SHA-crypt's work that depend on a digest come from a Python program.
 #[test]
 fn hashes(rt: HostRuntime) -> Result<(), Fail> {
     for &(setting, password, wanted, work) in &[
@@ -130,8 +130,8 @@ fn hashes(rt: HostRuntime) -> Result<(), Fail> {
     Ok(())
 }
 
-// Stored hashes are checked in lent memory: exactly as much as they need, which does not hold zeros, and a word or a
-// byte less.
+// Checks passwords in lent memory. First it is exactly as much as the stored hash needs, and filled with ones, as lent
+// memory need not hold zeros. Then it is a word or a byte less: scrypt lacks memory, and md5crypt needs none.
 #[test]
 fn hashes_in_lent_memory(rt: HostRuntime) -> Result<(), Fail> {
     let alloc = rt.alloc();
@@ -166,26 +166,27 @@ fn hashes_in_lent_memory(rt: HostRuntime) -> Result<(), Fail> {
         let mut bytes = vec![in alloc; 0xff; need.bytes]?;
         let mut meter = Meter::new();
         let mut lent = Lent::new(&mut words, &mut bytes);
-        let fits = stored.matches(&mut lent, &password, &mut meter);
-        want(&rt, fits, Ok(true), "the password");
+        let is_match = stored.matches(&mut lent, &password, &mut meter);
+        want(&rt, is_match, Ok(true), "the password");
         want(&rt, counts(&meter), work, "work");
         let another = Password::new(b"another")?;
-        let fits = stored.matches(&mut lent, &another, &mut Meter::new());
-        want(&rt, fits, Ok(false), "another password");
-        let refused = if need.words == 0 {
+        let is_match = stored.matches(&mut lent, &another, &mut Meter::new());
+        want(&rt, is_match, Ok(false), "another password");
+        // A check in too little memory returns this.
+        let wanted_in_too_little = if need.words == 0 {
             Ok(true)
         } else {
             Err(HashFault::OutOfMemory)
         };
         let _word = words.pop();
         let mut lent = Lent::new(&mut words, &mut bytes);
-        let fits = stored.matches(&mut lent, &password, &mut Meter::new());
-        want(&rt, fits, refused, "a word less");
+        let is_match = stored.matches(&mut lent, &password, &mut Meter::new());
+        want(&rt, is_match, wanted_in_too_little, "a word less");
         words.push(0)?;
         let _byte = bytes.pop();
         let mut lent = Lent::new(&mut words, &mut bytes);
-        let fits = stored.matches(&mut lent, &password, &mut Meter::new());
-        want(&rt, fits, refused, "a byte less");
+        let is_match = stored.matches(&mut lent, &password, &mut Meter::new());
+        want(&rt, is_match, wanted_in_too_little, "a byte less");
     }
     Ok(())
 }

@@ -1,14 +1,14 @@
 //! Tests of the rules that a line of input can break, in the order in which the rules are checked.
 
-use super::commands::left_by;
+use super::commands::run;
 use super::{padded, want};
 use run_core::line::{Kind, inspect};
 use std::alloc::Global;
 use std::process::Abort;
 use std::test::Fail;
 
-// Asserts which rule a line breaks: `inspect` returns its error, and a command prints the same message. A line that
-// breaks no rule has a locked account here, so the command hashes nothing.
+// Asserts which rule a line breaks: `inspect` returns its error, and a command prints the same message. The lines that
+// break no rule are of locked accounts, so the command hashes nothing.
 fn want_rule(
     rt: &impl Abort,
     alloc: Global,
@@ -17,11 +17,11 @@ fn want_rule(
 ) -> Result<(), Fail> {
     let fault = inspect(Kind::Check, line);
     want(rt, fault.map(|fault| fault.text()), wanted, "a rule");
-    let left = left_by(alloc, &["--check"], line)?;
+    let outcome = run(alloc, &["--check"], line)?;
     match wanted {
-        Some(message) => left.want_refused(rt, alloc, message),
+        Some(message) => outcome.want_refused(rt, alloc, message),
         None => {
-            left.want(rt, "no rule", 0, "a:locked\n", "");
+            outcome.want(rt, "no rule", 0, "a:locked\n", "");
             Ok(())
         }
     }

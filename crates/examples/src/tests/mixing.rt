@@ -43,8 +43,8 @@ fn a_block(rt: HostRuntime) -> Result<(), Fail> {
     Ok(())
 }
 
-// `salsa8`, which works in lanes, gives what `word_by_word` gives for 64 blocks: the words 0 to 15, and then the result
-// for each block in turn.
+// `salsa8`, which works in lanes, gives what `word_by_word` gives for 64 blocks. The first block is the words 0 to 15,
+// and each later one is the result for the block before it.
 #[test]
 fn lanes_as_word_by_word(rt: HostRuntime) {
     let mut block = [0, 1, 2, 3, 4, 5, 6, 7, 8, 9, 10, 11, 12, 13, 14, 15];
@@ -69,7 +69,8 @@ fn word_by_word(block: [u32; 16]) -> [u32; 16] {
     sum
 }
 
-// Returns the block after the quarter rounds of its columns and then of its rows.
+// Returns the block after the quarter rounds of its columns and then of its rows. The remainders change no index, but
+// show the checker that each index is below 16.
 fn double_round(x: [u32; 16]) -> [u32; 16] {
     let mut x = x;
     for [a, b, c, d] in [
@@ -164,6 +165,7 @@ fn rising_blocks(alloc: Global, r: usize) -> Result<Vec<u32>, AllocError>
 
 // Asserts the digest of the words after the 2r blocks of `rising_blocks` are mixed.
 fn want_mixed(rt: &impl Abort, alloc: Global, r: usize, wanted: &str) -> Result<(), Fail> {
+    // The prover needs these bounds: `rising_blocks` requires the upper one, and `block_mix` the lower one.
     assert!(rt; 1 <= r && r <= 6);
     let words = rising_blocks(alloc, r)?;
     let mut mixed = vec![in alloc; 7; 32 * r]?;
@@ -172,7 +174,8 @@ fn want_mixed(rt: &impl Abort, alloc: Global, r: usize, wanted: &str) -> Result<
     want_xor_mixed(rt, alloc, r, wanted)
 }
 
-// Splits words into two parts whose XOR is the words. One part is left in `words`, and the other is written to `row`.
+// Splits words into two parts whose XOR is the words. One part is left in `words`. The other is written to `row`: the
+// numbers of a linear congruential generator.
 fn split(words: &mut [u32], row: &mut [u32])
     requires { length words.old ≡ length row.old }
 {

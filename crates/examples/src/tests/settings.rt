@@ -210,6 +210,7 @@ fn settings_that_are_made(rt: HostRuntime) {
     }
 }
 
+// The number 129, which is 1 + 2 * 64, makes a salt that begins with the characters for 1 and 2, `/0`.
 #[test]
 fn salts_from_random_numbers(rt: HostRuntime) {
     let most = u64::MAX;

@@ -9,7 +9,7 @@ use Rattle.run_core.specs.Answers.{tally_of}
 use Rattle.run_core.specs.declared.fault.RunFault.{RunFault}
 use Rattle.run_core.specs.declared.tally.Tally.{Tally}
 use Rattle.mkpasswd.specs.Commands.{Ends, wants_generator}
-use Rattle.mkpasswd.specs.Faults.{IsTold, fault_row, parse_status}
+use Rattle.mkpasswd.specs.Faults.{IsReported, fault_row, parse_status}
 use Rattle.mkpasswd.specs.declared.fault.Fault.{Fault}
 use Rattle.mkpasswd.specs.declared.fault.Fault.TheVariants.{Start, Usage, Run}
 use Rattle.mkpasswd.specs.declared.fault.UsageFault.{UsageFault}
@@ -44,13 +44,13 @@ pub data ErrorShown {O E : Type 0} (error : Error) (turns : ℕ) (out : Device O
       → Shows turns out new_out text (Ok (tally_of [])) → new_faults ≡ faults → status ≡ 0
       → ErrorShown error turns out faults new_out new_faults status
   front : (text : List ℕ) → (fault : RunFault) → parse_status (kind_of error) ≡ 0
-      → Shows {A = Tally} turns out new_out text (Err fault) → IsTold (Run fault) faults new_faults → status ≡ (fault_row (Run fault)).0
+      → Shows {A = Tally} turns out new_out text (Err fault) → IsReported (Run fault) faults new_faults → status ≡ (fault_row (Run fault)).0
       → ErrorShown error turns out faults new_out new_faults status
-  no_text : IsTold (Usage OutOfMemory) faults new_faults → new_out ≡ out → status ≡ (fault_row (Usage OutOfMemory)).0
+  no_text : IsReported (Usage OutOfMemory) faults new_faults → new_out ≡ out → status ≡ (fault_row (Usage OutOfMemory)).0
       → ErrorShown error turns out faults new_out new_faults status
 
 -- RefusalShown fault turns out faults new_out new_faults status: the command reported the refusal of the arguments.
 abbrev pub RefusalShown : {O E : Type 0} → UsageFault → ℕ → Device O → Device E → Device O → Device E → ℕ → Type 0
 RefusalShown (Parse error) turns out faults new_out new_faults status = ErrorShown error turns out faults new_out new_faults status
 RefusalShown fault turns out faults new_out new_faults status =
-    IsTold (Usage fault) faults new_faults × (new_out ≡ out) × (status ≡ (fault_row (Usage fault)).0)
+    IsReported (Usage fault) faults new_faults × (new_out ≡ out) × (status ≡ (fault_row (Usage fault)).0)

@@ -1,4 +1,5 @@
--- Which rules the code passes to `clap`, which values `clap` accepts, and what the code's checks of the arguments say.
+-- Which rules the code passes to `clap`, which values `clap` accepts, and what the code's own checks of the arguments
+-- return.
 use Rattle.std.specs.Prelude.{◌≡◌, ℕ, pos, nat_lt, Bool, true, false, if◌then◌else◌, List, [], ◌∷◌, Option, Some, None, Result, Ok, Err}
 use Rattle.std.specs.Option.{option_map_or}
 use Rattle.std.specs.Str.{bytes_eq}
@@ -11,7 +12,7 @@ use Rattle.clap.specs.declared.parser.matches.ArgMatches.{ArgMatches}
 use Rattle.mkpasswd.specs.Options.{BreaksUsage, command_rules}
 use Rattle.mkpasswd.specs.declared.fault.UsageFault.{UsageFault}
 
--- HasRule arg rule: the argument `arg`, as the code builds it for `clap`, has this rule. It belongs to the command
+-- HasRule arg rule: the argument `arg`, as the code builds it for `clap`, has this rule, and belongs to the command
 -- alone, not to subcommands.
 abbrev pub HasRule : Arg → Rule → Type 0
 HasRule arg rule = (rule_of arg ≡ rule) × (arg.global ≡ false)

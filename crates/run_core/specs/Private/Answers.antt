@@ -1,4 +1,5 @@
--- What each step towards an answer returns. The steps find its outcome and render it as text.
+-- What the functions that find the outcome of a line return, the texts from which its answer is rendered, and its count
+-- in the tally.
 use Rattle.std.specs.Prelude.{◌≡◌, ◌≢◌, Bool, ℕ, ◌+◌, ◌<◌, true, false, List, [], ◌∷◌, ◌++◌, decimal, length, if◌then◌else◌, Option, Some, None, Result, Ok, Err}
 use Rattle.rand_core.specs.Stream.{Stream}
 use Rattle.prims_core.specs.Work.{no_work}
@@ -40,7 +41,7 @@ field_cost job (Some (fields.Hash stored)) password_length = check_cost job stor
 field_cost job (Some other) password_length = 0
 
 -- IsChecked job password stored stream hashings outcome: checking the password against its stored hash has this
--- outcome, and takes these hashes.
+-- outcome, for which these hashes are computed.
 abbrev pub IsChecked : Job → List ℕ → StoredHash → Stream → List Hashing → Outcome → Type 0
 IsChecked job password stored stream hashings Misfit =
     (crypt password stored.setting ≢ stored.text) × (hashings ≡ hashing password stored.setting stream ∷ [])
@@ -52,8 +53,8 @@ IsChecked job password stored stream hashings (Rehashed hash) =
     × (hashings ≡ hashing password stored.setting stream ∷ new_hashing job password stream ∷ [])
 IsChecked job password stored stream hashings outcome = ⊥
 
--- IsSettled job password field stream hashings outcome: a line with this password and this field has this outcome, and
--- takes these hashes.
+-- IsSettled job password field stream hashings outcome: a line with this password and this field has this outcome, for
+-- which these hashes are computed.
 abbrev pub IsSettled : Job → List ℕ → Option StoredField → Stream → List Hashing → Outcome → Type 0
 IsSettled job password None stream hashings outcome =
     (outcome ≡ Hashed (new_hash job password stream)) × (hashings ≡ new_hashing job password stream ∷ [])
@@ -61,9 +62,10 @@ IsSettled job password (Some fields.Empty) stream hashings outcome = (outcome �
 IsSettled job password (Some fields.Locked) stream hashings outcome = (outcome ≡ Locked) × (hashings ≡ [])
 IsSettled job password (Some (fields.Hash stored)) stream hashings outcome = IsChecked job password stored stream hashings outcome
 
--- Settles job password field stream before after new_stream result: the step for a line with this password and this
--- field returned this result: an outcome, a refusal for its cost, or an error because scrypt could not allocate memory.
--- After such an error, `outcome` is what the outcome would have been otherwise.
+-- Settles job password field stream before after new_stream result: for a line with this password and this field,
+-- `hash_within_budget` or `check_within_budget` returned this result. It is an outcome, a refusal for the line's cost,
+-- or an error because scrypt could not allocate memory. After such an error, `outcome` is what the outcome would have
+-- been otherwise.
 abbrev pub Settles : Job → List ℕ → Option StoredField → Stream → Work → Work → Stream → Result (Result Outcome LineFault) HashFault → Type 0
 Settles job password field stream before after new_stream (Ok (Ok outcome)) =
     (¬ IsAbove job.budget (field_cost job field (length password)))
@@ -76,9 +78,9 @@ Settles job password field stream before after new_stream (Err fault) =
     × (outcome : Outcome) × (hashings : List Hashing) × IsSettled job password field stream hashings outcome
     × IsRefusedAmong before hashings after new_stream
 
--- Concludes kind job line name stream before after new_stream result: the step for a line with this name, which breaks
--- no rule, returned this result. The result is right whatever the number of the line is. After an error, because scrypt
--- could not allocate memory, `outcome` is what the outcome would have been otherwise.
+-- Concludes kind job line name stream before after new_stream result: `outcome_of` returned this result for a line with
+-- this name, which breaks no rule. The result is right whatever the number of the line is. If scrypt could not allocate
+-- memory, `outcome` is what the outcome would have been otherwise.
 abbrev pub Concludes : Kind → Job → List ℕ → List ℕ → Stream → Work → Work → Stream → Result (Result Outcome LineFault) HashFault → Type 0
 Concludes kind job line name stream before after new_stream (Ok (Ok outcome)) =
     (hashings : List Hashing) × ((number : ℕ) → IsAnswer kind job number line stream (answer_of job name outcome hashings))
@@ -96,9 +98,9 @@ Renders job number (Ok answered) next = (next ≡ answer_of job answered.name.no
     × (after_work no_work next.hashings ≡ answered.work)
 Renders job number (Err fault) next = next ≡ refusal number fault
 
--- Decides kind job line stream before after new_stream result: the step for a line returned this result, which is right
--- whatever the number of the line is. If scrypt could not allocate memory, `next` is what the answer would have been
--- otherwise.
+-- Decides kind job line stream before after new_stream result: `answer_line` returned this result for the line. The
+-- result is right whatever the number of the line is. If scrypt could not allocate memory, `next` is what the answer
+-- would have been otherwise.
 abbrev pub Decides : Kind → Job → List ℕ → Stream → Work → Work → Stream → Result (Result Answered LineFault) HashFault → Type 0
 Decides kind job line stream before after new_stream (Ok answer) = (number : ℕ) → (next : Answer)
     × IsAnswer kind job number line stream next × Renders job number answer next

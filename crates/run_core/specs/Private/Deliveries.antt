@@ -27,22 +27,22 @@ module _ {T : Type 0} where
   Delivers turns old new text (Err fault) = ((fault ≡ Write) × TakesFront 1 old new [] text)
       ⊎ ((fault ≡ Turns) × TakesFront 0 old new [] text × (new.calls ≡ old.calls + turns))
 
-  -- IsKept old new: the device has the same contents and counts, except perhaps the counts of flushes and failures.
-  pub record IsKept (old new : Device T) : Type 0 where
+  -- HasSameContents old new: the device has the same contents, and the same counts of calls, bytes and idle calls.
+  pub record HasSameContents (old new : Device T) : Type 0 where
     pub shown : Keeps old.shown new.shown
     pub calls : new.calls ≡ old.calls
     pub bytes : new.bytes ≡ old.bytes
     pub idle : new.idle ≡ old.idle
 
-  -- IsFinished old new: the output was flushed, and the flush succeeded.
+  -- IsFinished old new: the output was flushed.
   pub record IsFinished (old new : Device T) : Type 0 where
-    pub kept : IsKept old new
+    pub kept : HasSameContents old new
     pub unfailed : IsUnfailed old new
     pub flushed : IsFlushed old new
 
-  -- IsUnfinished old new: the output was flushed, and the flush failed.
+  -- IsUnfinished old new: a flush was tried and failed.
   pub record IsUnfinished (old new : Device T) : Type 0 where
-    pub kept : IsKept old new
+    pub kept : HasSameContents old new
     pub failed : FailsOnce old new
     pub flush_failed : FailsToFlush old new
 

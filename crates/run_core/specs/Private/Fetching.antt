@@ -18,7 +18,7 @@ use Rattle.run_core.specs.declared.job.PasswordFrom.TheVariants.{Word, Input}
 abbrev pub buffer_size : ℕ
 buffer_size = password_limit + 1
 
--- IsUndecided bytes: the bytes that were read do not decide yet what the password is. They contain no line feed, and
+-- IsUndecided bytes: the bytes that were read do not yet decide what the password is. They contain no line feed, and
 -- are not too many for a password.
 abbrev pub IsUndecided : List ℕ → Type 0
 IsUndecided bytes = HasNoLineFeed bytes × (length bytes ≤ password_limit)
@@ -44,14 +44,14 @@ module _ {I : Type 0} where
   Fetches left old new buffer (Err fault) = Reads old new [] × StopsFetching left old new fault
 
   -- FindsLine old new bytes left buffer result: these bytes were read, and their first line is at the front of the
-  -- buffer; or reading stopped when they did not decide yet what the password is (`IsUndecided`).
+  -- buffer; or reading stopped before they decided what the password is (`IsUndecided`).
   abbrev pub FindsLine : Device I → Device I → List ℕ → ℕ → List ℕ → Result ℕ RunFault → Type 0
   FindsLine old new bytes left buffer (Ok count) =
       IsUnfailed old new × IsDecided new bytes × (count ≤ length buffer) × (take count buffer ≡ first_line bytes)
   FindsLine old new bytes left buffer (Err fault) = IsUndecided bytes × StopsFetching left old new fault
 
   -- Obtains old new bytes left result: these bytes were read, and their first line is the password, or is refused as a
-  -- password; or reading stopped when they did not decide yet what the password is (`IsUndecided`).
+  -- password; or reading stopped before they decided what the password is (`IsUndecided`).
   abbrev pub Obtains : Device I → Device I → List ℕ → ℕ → Result (List ℕ) RunFault → Type 0
   Obtains old new bytes left (Ok password) =
       IsUnfailed old new × IsDecided new bytes × (password ≡ first_line bytes) × IsPassword password

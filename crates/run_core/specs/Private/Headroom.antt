@@ -36,12 +36,11 @@ abbrev pub rounds_limit : ℕ
 rounds_limit = 3 * number_limit + 2
 
 -- finding_limit is the maximum length of a finding: the name of a method, a colon and the rounds, a count, a colon and
--- a standing.
+-- a standing. A method's name has at most 11 bytes (`sha512crypt`), and so has a standing (`over budget`).
 abbrev pub finding_limit : ℕ
 finding_limit = 11 + 1 + rounds_limit + count_limit + 1 + 11
 
--- answer_limit is the maximum length of an answer: a name and its verdict, a colon and a hash, four counts and a line
--- feed.
+-- answer_limit is the maximum length of an answer: a name, `:ok:`, a hash, four counts and a line feed.
 abbrev pub answer_limit : ℕ
 answer_limit = verdict_front_limit + 1 + hash_limit + 4 * count_limit + 1
 
@@ -52,12 +51,13 @@ pub record HasRoomFor {T : Type 0} (size left : ℕ) (device : Device T) : Type 
   pub calls : device.calls + left ≤ 2 ^ 63
   pub bytes : device.bytes + size * (left + 1) ≤ 2 ^ 63
 
--- HasCountsForLine counts: no count can overflow while the hashes of one more line are computed.
+-- HasCountsForLine counts: no count can overflow while the hashes of one more line are computed. Each hash needs counts
+-- of at most 2^120 (`HasRoom`), and a run over lines keeps them below 2^110 (`HasRoomForLines`).
 abbrev pub HasCountsForLine : Work → Type 0
 HasCountsForLine counts = IsAtMost counts (2 ^ 110)
 
--- to_read left piece is the maximum number of bytes from which a run can still cut lines, with this number of I/O calls
--- left: the unused bytes of the last read, and those of later reads. The number falls with each line.
+-- to_read left piece is the maximum number of bytes that a run can still split into lines, with this number of I/O
+-- calls left: the unused bytes of the last read, and those of later reads. It is lower after each line.
 abbrev pub to_read : ℕ → List ℕ → ℕ
 to_read left piece = piece_size * left + length piece
 

@@ -15,7 +15,7 @@ use Rattle.run_core.specs.declared.reader.buffer.LineBuffer.TheVariants.{Bytes, 
 abbrev pub IsTooLong : List ℕ → Type 0
 IsTooLong line = line_limit < length line
 
--- Represents buffer line: the buffer stands for this line, or for the part of a line that was read. It holds the same
+-- Represents buffer line: the buffer represents this line, or the part of a line that was read. It holds the same
 -- bytes, or it is `TooLong` and the line has more than `line_limit` bytes.
 abbrev pub Represents : LineBuffer → List ℕ → Type 0
 Represents (Bytes bytes) line = bytes.items ≡ line

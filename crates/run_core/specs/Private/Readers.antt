@@ -24,7 +24,7 @@ TakesLine old new buffer new_buffer false = (new ≡ []) × HasNoLineFeed old
     × ((part : List ℕ) → Represents buffer part → Represents new_buffer (part ++ old))
 
 -- FetchesPiece left old new piece result: one `fetch` read the bytes `piece` and returned this result.
---   true   the piece is not empty
+--   true   no call failed, and the read returned a byte
 --   false  the input is at its end
 --   Err    nothing was read
 abbrev pub FetchesPiece : {I : Type 0} → ℕ → Device I → Device I → List ℕ → Result Bool RunFault → Type 0

@@ -34,6 +34,7 @@ fn write(len: usize, took: usize) -> Step {
     (Device::Output, Call::Moved(len, took))
 }
 
+// A write of a message about a refused line.
 fn tell(len: usize, took: usize) -> Step {
     (Device::Faults, Call::Moved(len, took))
 }
@@ -279,7 +280,8 @@ fn calls_in_order_for_one_password(rt: HostRuntime) -> Result<(), Fail> {
 
 const INPUT: &[u8] = b"ann:password\n:x\nbob:password\n";
 
-// If each read returns one byte, every line that was read before a failure is answered.
+// If each read returns one byte, every line that was read before a failure is answered. The lines of `INPUT` end after
+// 13, 16 and 29 bytes. The run makes 30 reads, so none fails if the failure is set for read 31.
 #[test]
 fn answers_what_was_read(rt: HostRuntime) -> Result<(), Fail> {
     for call in 1..32 {
@@ -306,7 +308,7 @@ fn answers_what_was_read(rt: HostRuntime) -> Result<(), Fail> {
     Ok(())
 }
 
-// If each write takes one byte, every byte before the failure is written.
+// If each write takes one byte, every byte before the failure is written. Each line of `HASHES` has 39 bytes.
 #[test]
 fn writes_up_to_the_failure(rt: HostRuntime) -> Result<(), Fail> {
     for taken in 0..78usize {

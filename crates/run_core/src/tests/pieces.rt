@@ -33,8 +33,8 @@ fn answers_any_pieces_alike(rt: HostRuntime) -> Result<(), Fail> {
     Ok(())
 }
 
-// Lines and passwords at their limits, and one byte longer. The input comes in pieces of three sizes, so a long line is
-// cut at different places.
+// Lines and passwords may be as long as their limits, but no byte longer. The input comes in pieces of three sizes, so
+// a long line is cut at different places.
 #[test]
 fn measures_any_pieces_alike(rt: HostRuntime) -> Result<(), Fail> {
     let name = "mkpasswd: line 1: no password field\nmkpasswd: line 2: name too long\n";
@@ -86,7 +86,7 @@ fn stops_with_its_turns(rt: HostRuntime) -> Result<(), Fail> {
     };
     let line = "ann:password\n";
     // In each row: the run, its input, whether the input is repeated forever, the most bytes of a read and of a write,
-    // the limit on I/O calls, the outcome, and a text with the number of times that it is in the output.
+    // the limit on I/O calls, the outcome, and a text with the number of times that the output repeats it.
     let rows: [(Asked<'_>, &str, bool, [usize; 2], u64, Outcome, &str, usize); 15] = [
         (BATCH, "", false, [ALL, ALL], 0, TURNS, "", 0),
         (BATCH, "", false, [ALL, ALL], 1, Ok((0, 0, 0)), "", 0),

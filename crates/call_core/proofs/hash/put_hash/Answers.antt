@@ -13,5 +13,5 @@ returns-clause-hashes g c =
 pub returns-clause-opens : goal.returns-clause-opens
 returns-clause-opens g c =
     IsPut-whole (λ (text : List ℕ). Opens c.args.password.now text c.args.budget) c.args.budget
-    c.token.result.now c.args.out.now _ c.hash_of-hashed.result _ c.put_hashed.new.out c.hash_of-hashed.ensures.told
+    c.token.result.now c.args.out.now _ c.hash_of-hashed.result _ c.put_hashed.new.out c.hash_of-hashed.ensures.reported
     c.put_hashed.ensures.puts c.hash_of-hashed.ensures.opens

@@ -1,5 +1,6 @@
 -- What holds of the rounds that `report_rounds` reports (clause `fitted`): they make the fitted scheme again, the
--- reported cost is that of a new hash with it, and the cost is within the limit. FittedSchemes has the lemmas.
+-- reported cost is that of a new hash with it, and the cost is within the limit. `scheme` is the one that the method
+-- and the rounds make (`makes`), and the error is 0 (`positive`). FittedSchemes has the lemmas.
 use Rattle.std.proofs.Common.{◌≡◌, ◌≤◌, Some, ap, sym}
 use Rattle.std.specs.Prelude.{false}
 use Rattle.crypt_core.specs.MadeSettings.{rounds_of}
@@ -23,13 +24,13 @@ returns-in-Some-clause-fitted c = λ scheme makes positive.
     let made : IsSchemeMade TakesNewRounds number (rounds_of own) own =
     IsSchemeMade-fitted number c.args.rounds c.bytes.result len policy own c.in-Ok.ensures found in
     let rounds : c.of_rounds.result.rounds ≡ rounds_of own = cc (ap (λ (r : Report). r.rounds) c.of_rounds.ensures, c.rounds.ensures) in
-    let price : c.of_rounds.result.cost ≡ new_cost own len = cc (ap (λ (r : Report). r.cost) c.of_rounds.ensures, c.new_cost.ensures.cost) in
+    let cost : c.of_rounds.result.cost ≡ new_cost own len = cc (ap (λ (r : Report). r.cost) c.of_rounds.ensures, c.new_cost.ensures.cost) in
     let within : new_cost own len ≤ limit_bytes c.args.limit scheme = rw (c.bytes.ensures, one) at c.in-Some.ensures.within in
     let fewer : is_outdated_by scheme own ≡ false = rw one at c.in-Some.ensures.kept in
     record {
       own = own;
       makes = rw rounds made;
-      price = price;
-      within = rw price within;
+      cost = cost;
+      within = rw cost within;
       fewer = fewer;
     }

@@ -1,12 +1,12 @@
 -- The clause of `login_need` at three of its returns: with the need of the stored hash if that can be checked, with the
--- need of the decoy if the limit allows it, and with no need if the limit allows neither. At each return, a setting of
--- which `LoginHashesWith` holds is the one that the call found, or contradicts its tests of the limit.
+-- need of the dummy hash if the limit allows it, and with no need if the limit allows neither. At each return, a
+-- setting of which `LoginHashesWith` holds is the one that the call found, or contradicts its tests of the limit.
 use Rattle.std.proofs.Common.{◌≡◌, ◌≤◌, ◌<◌, length, arith, inl, inr, refl, rules}
 use Rattle.crypt_core.specs.Needs.{bytes_by, words_by}
 use Rattle.crypt_core.specs.Work.{cost}
 use Rattle.call_core.specs.Arguments.{TakesNewRounds}
 use Rattle.call_core.specs.Limits.{limit_in}
-use Rattle.call_core.specs.Logins.{decoy}
+use Rattle.call_core.specs.Logins.{dummy}
 use Rattle.call_core.proofs.LoginReports.{IsUncheckable-none_within}
 use Rattle.call_core.proofs.MadeSchemes.{IsSchemeMade-unique}
 use Rattle.call_core.proofs.need.login_need.Goals as goal
@@ -39,15 +39,15 @@ returns-in-Ok-cost_within c =
     absurd (cc (c.in_default-checkable.ensures.admits kept spells (rw (password.0, c.in-Ok.ensures.limit) low)))) in
     let words : (c.need-in-Ok-cost_within.result).words ≡ words_by scheme = search rules in
     let bytes : (c.need-in-Ok-cost_within.result).bytes ≡ bytes_by scheme = search rules in
-    let within = rw (password.0, c.salted-decoy.ensures) at c.in-Ok-cost_within.ensures.within in
-    let low : cost (decoy scheme) (length c.args.password.now) ≤ limit = rw (← c.in-Ok.ensures.limit) within.1 in (
+    let within = rw (password.0, c.salted-dummy.ensures) at c.in-Ok-cost_within.ensures.within in
+    let low : cost (dummy scheme) (length c.args.password.now) ≤ limit = rw (← c.in-Ok.ensures.limit) within.1 in (
       λ kept hashes. elim hashes.3 [
         | inl spells ↦ absurd (omega (arith, never kept spells, hashes.4))
         | inr off ↦
             let same : hashes.0 ≡ scheme = IsSchemeMade-unique TakesNewRounds TakesNewRounds c.args.method c.args.rounds hashes.0 scheme hashes.1 c.in-Ok.ensures.scheme in
             rw (off.1, same) (words, bytes)
       ],
-      λ none. absurd (none (decoy scheme) (scheme, c.in-Ok.ensures.scheme, password.1, inr (never, refl), low)),
+      λ none. absurd (none (dummy scheme) (scheme, c.in-Ok.ensures.scheme, password.1, inr (never, refl), low)),
     )
 
 pub returns-in-Err : goal.returns-in-Err
@@ -57,8 +57,8 @@ returns-in-Err c =
     let limit = limit_in c.args.method c.args.rounds c.args.limit (length c.args.password.now) in
     let never = IsUncheckable-none_within c.args.password.now c.args.field.now limit (λ kept spells low.
     absurd (cc (c.in_default-checkable.ensures.admits kept spells (rw (password.0, c.in-Ok.ensures.limit) low)))) in
-    let above = rw (password.0, c.salted-decoy.ensures) at c.in-Err.ensures.above in
-    let high : limit < cost (decoy scheme) (length c.args.password.now) = rw (← c.in-Ok.ensures.limit) above.0 in (
+    let above = rw (password.0, c.salted-dummy.ensures) at c.in-Err.ensures.above in
+    let high : limit < cost (dummy scheme) (length c.args.password.now) = rw (← c.in-Ok.ensures.limit) above.0 in (
       λ kept hashes. elim hashes.3 [
         | inl spells ↦ absurd (omega (arith, never kept spells, hashes.4))
         | inr off ↦

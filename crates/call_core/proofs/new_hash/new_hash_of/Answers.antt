@@ -9,7 +9,7 @@ use Rattle.call_core.proofs.PutNewHashes.{not_three-false, MakesHashAnew-numbers
 use Rattle.call_core.proofs.MadeSchemes.{is_outdated_by-self, IsSchemeMade-TakesRounds}
 use Rattle.call_core.proofs.new_hash.new_hash_of.Goals as goal
 
--- a list of length 3 consists of its items 0, 1 and 2
+-- A list of length 3 consists of its items 0, 1 and 2.
 length-three : (numbers : List ℕ) → length numbers ≡ 3 → numbers ≡ slice_index numbers 0 ∷ slice_index numbers 1 ∷ slice_index numbers 2 ∷ []
 length-three [] few = absurd (omega (arith, few))
 length-three (a ∷ []) few = absurd (omega (arith, few))
@@ -32,21 +32,21 @@ returns-then-numbers-eq3-clause-current g c =
     (λ made is. inl (c.salted-setting.result, is.0, inl (scheme, makes, rw (same, is_outdated_by-self scheme) refl)))
     c.hash_within.ensures.spells
 
-pub returns-in_err-most-clause-makes : goal.returns-in_err-most-clause-makes
-returns-in_err-most-clause-makes g c =
+pub returns-in_err-hash_cost-clause-makes : goal.returns-in_err-hash_cost-clause-makes
+returns-in_err-hash_cost-clause-makes g c =
     let missing : (length c.args.numbers.now == 3) ≡ false = not_three-false (length c.args.numbers.now) c.if-numbers-eq3.false in
     let password = c.in_ok-request.ensures.password in
     rw (← c.in_ok-request.ensures.limit) (MakesHashAnew-no_numbers c.args.password.now c.args.method c.args.rounds c.args.numbers.now (c.in_ok-request.request).limit c.args.room (c.in_ok-request.request).scheme
-    (Err c.in_err-most.field-0.0) _ password.1 c.in_ok-request.ensures.scheme missing
-    (rw (c.salted-setting-2.ensures, password.0) at c.in_err-most.ensures) (search rules))
+    (Err c.in_err-hash_cost.field-0.0) _ password.1 c.in_ok-request.ensures.scheme missing
+    (rw (c.salted-setting-2.ensures, password.0) at c.in_err-hash_cost.ensures) (search rules))
 
 pub returns-clause-makes : goal.returns-clause-makes
 returns-clause-makes g c =
     let missing : (length c.args.numbers.now == 3) ≡ false = not_three-false (length c.args.numbers.now) c.if-numbers-eq3.false in
     let password = c.in_ok-request.ensures.password in
     rw (← c.in_ok-request.ensures.limit) (MakesHashAnew-no_numbers c.args.password.now c.args.method c.args.rounds c.args.numbers.now (c.in_ok-request.request).limit c.args.room (c.in_ok-request.request).scheme
-    (Ok c.in_ok-most.most) _ password.1 c.in_ok-request.ensures.scheme missing
-    (rw (c.salted-setting-2.ensures, password.0) at c.in_ok-most.ensures) (search rules))
+    (Ok c.in_ok-hash_cost.hash_cost) _ password.1 c.in_ok-request.ensures.scheme missing
+    (rw (c.salted-setting-2.ensures, password.0) at c.in_ok-hash_cost.ensures) (search rules))
 
 pub returns-then-numbers-eq3-clause-makes : goal.returns-then-numbers-eq3-clause-makes
 returns-then-numbers-eq3-clause-makes g c =

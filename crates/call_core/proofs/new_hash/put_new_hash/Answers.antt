@@ -18,11 +18,11 @@ returns-clause-hashes g c =
 pub returns-clause-opens : goal.returns-clause-opens
 returns-clause-opens g c =
     IsPut-whole (λ (text : List ℕ). Opens c.args.password.now text (limit_in c.args.method c.args.rounds c.args.limit (length c.args.password.now))) (limit_in c.args.method c.args.rounds c.args.limit (length c.args.password.now)) c.token.result.now c.args.out.now _
-    c.new_hash_of-hashed.result _ c.put_hashed.new.out c.new_hash_of-hashed.ensures.told c.put_hashed.ensures.puts
+    c.new_hash_of-hashed.result _ c.put_hashed.new.out c.new_hash_of-hashed.ensures.reported c.put_hashed.ensures.puts
     c.new_hash_of-hashed.ensures.opens
 
 pub returns-clause-current : goal.returns-clause-current
 returns-clause-current g c =
     IsPut-whole (λ (text : List ℕ). Rehashes text c.args.method c.args.rounds (found 0 0 no_work)) (limit_in c.args.method c.args.rounds c.args.limit (length c.args.password.now)) c.token.result.now c.args.out.now _
-    c.new_hash_of-hashed.result _ c.put_hashed.new.out c.new_hash_of-hashed.ensures.told c.put_hashed.ensures.puts
+    c.new_hash_of-hashed.result _ c.put_hashed.new.out c.new_hash_of-hashed.ensures.reported c.put_hashed.ensures.puts
     c.new_hash_of-hashed.ensures.current

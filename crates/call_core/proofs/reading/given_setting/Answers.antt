@@ -16,7 +16,7 @@ use Rattle.call_core.specs.declared.reason.Reason.{Reason}
 use Rattle.call_core.proofs.GivenSettings.{IsGivenRefused-clamped, IsGivenRefused_from_IsMakeRefused, not_BreaksGiven}
 use Rattle.call_core.proofs.reading.given_setting.Goals as goal
 
--- `IsGivenReading` holds of a result that is an error with the reason for the first broken rule
+-- `IsGivenReading` holds of a result that is an error with the reason for the first broken rule.
 IsGivenReading-refused : (number rounds : ℕ) (salt : List ℕ) (method : Method) (fault : MakeFault) (result : Result SettingValue Reason)
     → chosen_method number ≡ Some method → IsGivenRefused method rounds salt fault → IsErrAnd result (λ reason. reason ≡ make_reason fault)
     → IsGivenReading number rounds salt result
@@ -33,12 +33,14 @@ returns-in_err-setting c =
     IsGivenReading-refused c.args.number c.args.rounds salt method fault c.from_residual.result (sym c.in-Some.ensures)
     (IsGivenRefused_from_IsMakeRefused method c.args.rounds salt fault first) c.from_residual.ensures.1
 
--- a setting made with the rounds that the code's `chosen_rounds` returned is made with those of the definition
+-- A setting made with the rounds that the code's `chosen_rounds` returned is made with those of the definition.
 made_setting-chosen_rounds : (method : Method) (chosen rounds : ℕ) (salt : List ℕ) (kept : SettingValue) → chosen ≡ chosen_rounds method rounds
     → kept ≡ record { scheme = made_scheme method chosen; salt = salt }
     → kept ≡ record { scheme = made_scheme method (chosen_rounds method rounds); salt = salt }
 made_setting-chosen_rounds method chosen rounds salt kept same is = is ∙ ap (λ (n : ℕ). record { scheme = made_scheme method n; salt = salt }) same
 
+-- If no rule is broken with the rounds that were chosen, none is broken with those that `chosen_rounds` gives, which
+-- are the same.
 not_BreaksMake-chosen_rounds : (method : Method) (chosen rounds : ℕ) (salt : List ℕ) → chosen ≡ chosen_rounds method rounds
     → ((fault : MakeFault) → ¬ BreaksMake method chosen (Some salt) fault)
     → (fault : MakeFault) → ¬ BreaksMake method (chosen_rounds method rounds) (Some salt) fault

@@ -8,10 +8,10 @@ use Rattle.call_core.specs.declared.report.Report.{Report}
 use Rattle.call_core.proofs.MadeSchemes.{OnScheme-refused}
 use Rattle.call_core.proofs.reading.read_request.Goals as goal
 
--- if an error equals a report, what holds of the report holds of the error
-IfErr-report : {A : Type 0} → (made : Result A Report) (report : Report) (P : Report → Type 0) → IsErrAnd made (λ told. told ≡ report) → P report → IfErr made P
+-- If an error equals a report, what holds of the report holds of the error.
+IfErr-report : {A : Type 0} → (made : Result A Report) (report : Report) (P : Report → Type 0) → IsErrAnd made (λ reported. reported ≡ report) → P report → IfErr made P
 IfErr-report (Ok a) report P is holds = tt
-IfErr-report (Err told) report P is holds = rw is holds
+IfErr-report (Err reported) report P is holds = rw is holds
 
 pub returns-in_err-scheme-clause-refused : goal.returns-in_err-scheme-clause-refused
 returns-in_err-scheme-clause-refused c =

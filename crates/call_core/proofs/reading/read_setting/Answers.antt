@@ -1,5 +1,5 @@
--- `read_setting` returns the setting that the text spells, if it spells one (clause `each_setting`), because
--- `Setting::read` does.
+-- `read_setting` returns the setting that the text spells (`kept`, `spells`), if it spells one (clause `each_setting`),
+-- because `Setting::read` does.
 use Rattle.call_core.proofs.reading.read_setting.Goals as goal
 
 pub returns-in_err-read-clause-each_setting : goal.returns-in_err-read-clause-each_setting

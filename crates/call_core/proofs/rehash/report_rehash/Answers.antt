@@ -10,6 +10,9 @@ use Rattle.call_core.proofs.LoginReports.{is_outdated_by-eq}
 use Rattle.call_core.proofs.MadeSchemes.{IsSchemeMade-unique, OnScheme-refused}
 use Rattle.call_core.proofs.rehash.report_rehash.Goals as goal
 
+-- The clause `replaced`: if the stored hash is outdated (`is`), the report's `outdated` is 1. The hypothesis `is` holds
+-- the setting in the field (`.0`), the scheme of the method and the rounds (`.1`), proofs of these two (`.2`, `.3`),
+-- and that the second outdates the first (`.4`).
 pub returns-in-Err-clause-replaced : goal.returns-in-Err-clause-replaced
 returns-in-Err-clause-replaced c = λ is. absurd (c.in-Err.ensures.each_setting is.0 is.2)
 
@@ -20,8 +23,8 @@ returns-in-Ok-scheme_of-clause-replaced c = λ is.
     let same : kept ≡ is.0 = c.in-Ok.ensures.each_setting is.0 is.2 in
     let made : scheme ≡ is.1 = IsSchemeMade-unique TakesRounds TakesRounds c.args.method c.args.rounds scheme is.1 c.in-Ok-scheme_of.ensures is.3 in
     let outdated : is_outdated_by kept.scheme scheme ≡ true = is_outdated_by-eq kept is.0 scheme is.1 same made is.4 in
-    let told : c.is_outdated_by.result ≡ true = cc in
-    rw told at (ap (λ (report : Report). report.outdated) c.found.ensures)
+    let reported : c.is_outdated_by.result ≡ true = cc in
+    rw reported at (ap (λ (report : Report). report.outdated) c.found.ensures)
 
 pub returns-in-Err-scheme_of-clause-rehashes : goal.returns-in-Err-scheme_of-clause-rehashes
 returns-in-Err-scheme_of-clause-rehashes c = inl (

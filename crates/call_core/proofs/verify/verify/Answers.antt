@@ -2,6 +2,10 @@
 -- cost (`in-Err-checkable`), and if the hashes are compared (`in-Ok-checkable`). CheckReports has the lemma for the
 -- report of each. The setting of a hash that the password opens is the one that was read, because a field spells only
 -- one.
+--
+-- The parts of the hypothesis `opens`, that the password opens the stored hash, are: `.0`, the password is valid;
+-- `.1.0`, the setting; `.1.1`, the field spells it; `.1.2`, the hash of the password is the stored one; `.1.3`, its
+-- cost is within the budget.
 use Rattle.std.proofs.Common.{◌≡◌, ◌∙◌, inl, inr, sym, ap, arith}
 use Rattle.crypt_core.specs.Crypt.{allocates}
 use Rattle.crypt_core.specs.Settings.{SettingValue}
@@ -13,6 +17,8 @@ returns-in-Err-checkable-clause-verifies g c =
     Verifies-refused c.args.password.now c.args.stored.now c.args.budget _ c.in-Ok.ensures.ok.1
     (rw c.in-Ok.ensures.ok.0 at c.in-Err-checkable.ensures.refused)
 
+-- The clause `opens`, if `checkable` refused: it admits every stored hash that the password opens, so the refusal
+-- contradicts the hypothesis.
 pub returns-in-Err-checkable-clause-opens : goal.returns-in-Err-checkable-clause-opens
 returns-in-Err-checkable-clause-opens g c = λ opens.
     absurd (cc (c.in-Err-checkable.ensures.admits opens.1.0 opens.1.1 (rw c.in-Ok.ensures.ok.0 opens.1.3)))
@@ -25,6 +31,9 @@ returns-in-Ok-checkable-clause-verifies g c =
     Verifies_from_Compares c.args.password.now c.args.stored.now c.args.budget kept _ c.in-Ok.ensures.ok.1 found.spells (omega (arith, within))
     (rw (c.in-Ok.ensures.ok.0, found.is_text) at c.compare.ensures.compares)
 
+-- The clause `opens`, after a comparison: the error is 0, or scrypt lacked memory. In the second case the clause also
+-- says that the field needs memory: if it did not (`free`), it would spell a setting whose hash needs none. But a field
+-- spells only one setting, so that would be the setting with which scrypt lacked memory.
 pub returns-in-Ok-checkable-clause-opens : goal.returns-in-Ok-checkable-clause-opens
 returns-in-Ok-checkable-clause-opens g c = λ opens.
     let kept = (c.in-Ok-checkable.stored).setting in
@@ -41,6 +50,8 @@ returns-in-Ok-checkable-clause-opens g c = λ opens.
       )
     ]
 
+-- The clause `shut`: if the stored hash is dead (`dead`), the error is not 0. Otherwise (`none`) the password would
+-- match the stored hash, and no password matches a dead one.
 pub returns-in-Ok-checkable-clause-shut : goal.returns-in-Ok-checkable-clause-shut
 returns-in-Ok-checkable-clause-shut g c = λ dead none.
     let found = c.in-Ok-checkable.ensures.found in

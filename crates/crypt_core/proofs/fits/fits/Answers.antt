@@ -1,6 +1,6 @@
--- Proves the clause `below` of `fits`: for every setting that the stored hash spells, each count of the hash's work is
--- below `work_limit`. A stored hash with an error spells no setting, and one that was compared spells only the setting
--- whose work `matches` has bounded.
+-- Proves the clause `below` of `fits`: for every setting that the stored hash spells (`kept`, `spelled`), each count of
+-- the hash's work is below `work_limit`. A stored hash with an error spells no setting, and one that was compared
+-- spells only the setting whose work `matches` has bounded.
 use Rattle.crypt_core.proofs.OneSetting.{setting_unique}
 use Rattle.crypt_core.proofs.Refusals.{Spells-not-IsRefused}
 use Rattle.crypt_core.proofs.fits.fits.Goals as goal

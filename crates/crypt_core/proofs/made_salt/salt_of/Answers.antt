@@ -1,4 +1,4 @@
--- Each iteration of the loop of `salt_of` appends the next character of `made_salt`, and all its characters are in the
+-- Each iteration of the loop of `salt_of` appends the next character of `made_salt`, whose characters are all in the
 -- alphabet (clause `characters`).
 use Rattle.std.proofs.Common.{arith, rules, refl}
 use Rattle.std.proofs.lemmas.Nat.{and_mask}

@@ -10,8 +10,8 @@ use Rattle.crypt_core.proofs.CountSums.{with_digests}
 use Rattle.crypt_core.proofs.MessageLists.{messages_to}
 use Rattle.crypt_core.proofs.md5crypt.md5crypt.Given as goal
 
--- IsAfter password salt before digest meter rounds: after so many rounds, `digest` is the digest of the last round, of
--- 16 bytes, and the meter has counted the messages so far in addition to `before`.
+-- IsAfter password salt before digest meter rounds: after this number of rounds, `digest` is the digest of the last
+-- round, of 16 bytes, and the meter has counted the messages so far in addition to `before`. Their bytes are bounded.
 abbrev IsAfter : List ℕ → List ℕ → Work → List ℕ → Work → ℕ → Type 0
 IsAfter password salt before digest meter rounds =
     (digest ≡ digest_after md5 (md5crypt_opening password salt) password salt rounds)

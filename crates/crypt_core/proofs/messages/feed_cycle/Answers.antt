@@ -1,5 +1,6 @@
--- Proves the clause `message` of `feed_cycle`: the whole copies of the digest and the front of one more are the first
--- `len` bytes of the repeated digest (CycleLemmas).
+-- Proves the clause `message` of `feed_cycle`: if the running digest held the message `m` before (`h`), it then holds
+-- `m` and the first `len` bytes of the repeated digest. These are the whole copies and the beginning of one more
+-- (CycleLemmas).
 use Rattle.std.proofs.Common.{◌≡◌, ◌+◌, ◌*◌, ◌/◌, ◌%◌, ◌≤◌, length, arith, refl, sym, append_assoc}
 use Rattle.std.proofs.lemmas.Nat.{div-add-mod'}
 use Rattle.std.proofs.Math.Nat.{mod-lt}

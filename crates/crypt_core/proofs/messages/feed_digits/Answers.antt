@@ -53,6 +53,7 @@ append-digit_pieces_none_left : (one other fed all : List ℕ) (n : ℕ) → n �
 append-digit_pieces_none_left one other fed all n none e =
     sym (append-nil fed) ∙ (ap (λ rest. fed ++ rest) (sym (digit_pieces-zero one other)) ∙ (ap (λ k. fed ++ digit_pieces one other k) (sym none) ∙ e))
 
+-- The clause `message`: if the running digest held the message `m` before (`h`), it then holds `m` and all pieces.
 pub returns-clause-message : goal.returns-clause-message
 returns-clause-message g c = λ m h.
     let fed = c.digits.invariant.0 in

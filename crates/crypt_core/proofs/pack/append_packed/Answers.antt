@@ -1,5 +1,5 @@
--- Proves the clauses of `append_packed`, and the preconditions of the calls in its loop: each group of the table is a
--- group of the digest, so its number fits, and the text has room for its characters. The loop appends the groups in the
+-- Proves the clauses of `append_packed`, and the preconditions of the calls in its loop: each group of the table has
+-- one to three indices into the digest, and the text has room for its characters. The loop appends the groups in the
 -- order of `packed` (PackingLemmas).
 use Rattle.std.proofs.Common.{◌≡◌, ◌+◌, ◌++◌, [], length, arith, ap, Bor, List, ℕ, get_or, drop, ◌∙◌}
 use Rattle.std.proofs.lemmas.List.{length-append}

@@ -1,6 +1,6 @@
 -- The loop of `digit_bytes` in src/work.rt adds the bytes for the lowest binary digit and halves the number, as the
--- definition `digit_bytes` does. The sum is at most the number times the greater of `one` and `other`, so nothing
--- overflows (CycleLemmas).
+-- definition `digit_bytes` does. The sum is at most the number times `password_limit`, which bounds `one` and `other`,
+-- so nothing overflows (CycleLemmas).
 use Rattle.std.proofs.Common.{◌≡◌, ℕ, arith, ap, ◌∙◌}
 use Rattle.crypt_core.specs.Passwords.{password_limit}
 use Rattle.crypt_core.specs.Cycle.{digit_bytes}

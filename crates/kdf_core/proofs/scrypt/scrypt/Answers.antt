@@ -1,12 +1,12 @@
 -- The clauses of `scrypt`. The preconditions of its allocations follow from the bounds on the parameters. If the third
--- allocation fails, the meter has counted the first two (`meter-after_two_growths`). The clause `specified` holds at
--- each return (`HaveCountAndSum-scrypt_messages`).
+-- allocation fails, the meter has counted the first two (`meter-after_two_allocations`). The clause `specified` holds
+-- at each return (`HaveCountAndSum-scrypt_messages`).
 use Rattle.std.proofs.Common.{◌*◌, length, inr, arith, rules}
 use Rattle.kdf_core.specs.Scrypt.{parts_bytes}
 use Rattle.kdf_core.specs.ScryptWork.{table_bytes, IsAfterRefusal}
 use Rattle.kdf_core.proofs.MessageCounts.{HaveCountAndSum-scrypt_messages}
 use Rattle.kdf_core.proofs.ScryptBounds.{parts_bytes-product, parts_bytes-le, table_bytes-product}
-use Rattle.kdf_core.proofs.ScryptResult.{meter-after_two_growths}
+use Rattle.kdf_core.proofs.ScryptResult.{meter-after_two_allocations}
 use Rattle.kdf_core.proofs.scrypt.scrypt.Goals as goal
 
 pub new-requires-2-clause-fits : goal.new-requires-2-clause-fits
@@ -22,7 +22,7 @@ pub returns-in_err-halves-clause-refused : goal.returns-in_err-halves-clause-ref
 returns-in_err-halves-clause-refused c =
     let params = c.args.params.now in
     let refused : IsAfterRefusal c.args.meter.now params c.new-3.new.meter =
-    inr (inr (meter-after_two_growths c.args.meter.now c.new.new.meter c.new-2.new.meter c.new-3.new.meter
+    inr (inr (meter-after_two_allocations c.args.meter.now c.new.new.meter c.new-2.new.meter c.new-3.new.meter
     (4 * (c.row_count-rows.result * (32 * c.r-r.result))) (128 * c.r-r.result * c.p-p.result) (table_bytes params) (parts_bytes params)
     c.in_ok-table.ensures.count c.in_ok-parts.ensures.count c.in_err-halves.ensures.refused
     (table_bytes-product params c.row_count-rows.result c.r-r.result c.row_count-rows.ensures.number c.r-r.ensures.number)

@@ -1,6 +1,6 @@
--- The clauses of `run_command`: `serves` follows from what the function's steps promise (ServedCommands), `whole` from
--- `serves` (WholeCommands), and `prints` from `whole` (PrintedHash). Each clause has three cases: the run ended with a
--- tally, the plan could not be run or its run ended with an error, or the arguments were refused.
+-- Proves the clauses of `run_command`: `serves` follows from what the called functions promise (ServedCommands),
+-- `whole` from `serves` (WholeCommands), and `prints` from `whole` (PrintedHash). Each clause has three cases: the run
+-- ended with a tally, the plan could not be run or its run ended with an error, or the arguments were refused.
 use Rattle.std.proofs.Common.{None, false, refl}
 use Rattle.mkpasswd.proofs.PrintedHash.{PrintsHash_from_EndsWhole}
 use Rattle.mkpasswd.proofs.ServedCommands.{Serves-run_fault, Serves-refusal, Serves-run}
@@ -20,7 +20,7 @@ pub returns-in-Ok-clause-serves : goal.returns-in-Ok-clause-serves
 returns-in-Ok-clause-serves g c = (
   c.generator_for.result,
   Serves-run_fault c.args.turns _ _ _ _ c.in-Ok.plan _ _ c.report_fault.new.faults c.in-Err-run_plan.fault _
-      c.in-Ok.ensures c.generator_for.ensures c.in-Err-run_plan.ensures.runs c.report_fault.ensures.told c.report_fault.ensures.status,
+      c.in-Ok.ensures c.generator_for.ensures c.in-Err-run_plan.ensures.runs c.report_fault.ensures.reported c.report_fault.ensures.status,
 )
 
 -- ---- The arguments were refused

@@ -1,5 +1,5 @@
--- The clause `runs` of `run_plan` if a run over lines ends with an error: the error is that of the run, and the plan
--- does not lack a generator, because it had one or, as an audit, needs none.
+-- Proves the clause `runs` of `run_plan` where a run over lines ends with an error. The error is that of the run, and
+-- the plan does not lack a generator: a batch or a check has one, and an audit needs none.
 use Rattle.std.proofs.Common.{◌≡◌, None, refl}
 use Rattle.std.proofs.lemmas.Result.{err_from_is_err_and}
 use Rattle.mkpasswd.proofs.command.run_plan.Goals as goal

@@ -1,6 +1,6 @@
--- The clause of `show_error` where the message of `clap`'s error was made. The function wrote a message about the
--- arguments, or help or the version, or failed to write help or the version. `use_stderr` decides which output it wrote
--- to, and the status follows from the kind of the error.
+-- Proves the clause of `show_error` where `text_of` returned the message of `clap`'s error. The function wrote a
+-- message about the arguments, or help or the version, or failed to write help or the version. `use_stderr` decides
+-- which output it wrote to, and the status follows from the kind of the error.
 use Rattle.std.proofs.Common.{◌≢◌, ◌∙◌, true≢false, Ok, Err, refl, sym}
 use Rattle.clap.specs.Words.{kind_of}
 use Rattle.clap.specs.declared.error.kind.ErrorKind.TheVariants as kind
@@ -25,4 +25,4 @@ returns g c =
     let asked : ¬ ((kind_of c.args.error.now ≢ kind.DisplayHelp) × (kind_of c.args.error.now ≢ kind.DisplayVersion)) = λ both. true≢false (sym (c.use_stderr.ensures.1 both) ∙ c.if-use_stderr.false) in
     front c.as_bytes-message.result.now c.in-Err.fault (parse_status-help _ asked)
     (Shows-as_tally {A = Unit {0}} c.args.turns c.args.out.now c.show-shown.new.out c.as_bytes-message.result.now (Err c.in-Err.fault) c.in-Err.ensures)
-    c.report_fault-in-Err.ensures.told c.report_fault-in-Err.ensures.status
+    c.report_fault-in-Err.ensures.reported c.report_fault-in-Err.ensures.status

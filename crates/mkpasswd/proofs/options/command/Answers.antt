@@ -13,8 +13,6 @@ use Rattle.mkpasswd.specs.Options.{command, command_rules}
 use Rattle.mkpasswd.specs.Private.Options.{HasRule}
 use Rattle.mkpasswd.proofs.options.command.Goals as goal
 
--- ---- All arguments
-
 -- Each argument has the rule at the same place in the list of rules.
 abbrev HaveRules : List Arg → List Rule → Type 0
 HaveRules [] [] = ⊤

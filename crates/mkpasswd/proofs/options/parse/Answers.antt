@@ -19,7 +19,7 @@ use Rattle.mkpasswd.proofs.options.parse.Goals as goal
 -- ---- Refusals
 
 -- If `clap` returns an error other than a failed allocation, then the arguments are invalid as this error says, or they
--- ask for the help or the version that it brings.
+-- ask for help or the version.
 Refuses-clap_error : (a : App) (arguments : List Text) (e : Error) → a ≡ command → (takes a arguments ≡ true → kind_of e ≡ kind.OutOfMemory)
     → (is_simple_and_free a ≡ true → HasKind (fault_of a arguments) e) → kind_of e ≢ kind.OutOfMemory → Refuses arguments e
 Refuses-clap_error a arguments e is passes kinds other = record {

@@ -1,6 +1,6 @@
--- The clause of `plan` if `parse` fails or `Maker::new` refuses. If `parse` fails, the error is a refusal by `clap` or
--- a failed allocation. If `Maker::new` refuses, the arguments break no earlier rule, and its error is that of the first
--- rule that they break (PlannedMeaning).
+-- Proves the clause of `plan` where `parse` or `Maker::new` returns an error. If `parse` fails, the error is a refusal
+-- by `clap` or a failed allocation. If `Maker::new` refuses, the arguments break no earlier rule, and its error is that
+-- of the first rule that they break (PlannedMeaning).
 use Rattle.std.proofs.Common.{◌≡◌, ◌≢◌, ◌∙◌, Err, List, codes, inr, subst, sym, true≢false}
 use Rattle.std.proofs.lemmas.Slice.Eq.{bytes_eq-Decides}
 use Rattle.std.proofs.lemmas.Result.{err_from_is_err_and}
@@ -23,6 +23,8 @@ Plans-clap_error arguments error (Parse e) memory other refuses =
     subst (λ (x : Error). Refuses arguments x) same (refuses not_memory)
 Plans-clap_error arguments error fault memory other refuses = let is = other (λ is. let bad = memory is in cc) in cc
 
+-- `p` holds the error returned (`p.0`), that the result is this error (`p.1`), and which error that is after a failed
+-- allocation (`p.2.0`) and after a refusal by `clap` (`p.2.1`).
 pub returns-in_err-given : goal.returns-in_err-given
 returns-in_err-given c =
     let p = err_from_is_err_and c.from_residual.result c.from_residual.ensures.1 in

@@ -1,7 +1,8 @@
 -- Proves the goals of `answer_line`: its clause `decides` at each return, the clause `short`, and the precondition of
 -- `unwrap`. A line that is too long is refused as `LineTooLong`. Any other line that `inspect` accepts has its parts,
 -- to which the clause `settles` of `outcome_of` applies. The work in the answer is the difference of two readings of
--- the meter, which is the work of the hashes (`after_work-told`).
+-- the meter, which is the work of the hashes (`after_work-told`). In each `decides`, `text` is the line in the buffer
+-- (`stands`), and the answer is right whatever the number of the line is (`number`).
 use Rattle.std.proofs.Common.{◌≡◌, ℕ, List, ap, sym, subst, ◌∙◌, refl, rules, Option, Some, None}
 use Rattle.std.specs.Prelude.{Result, Ok, MatchOption}
 use Rattle.std.specs.Option.{IsSome}

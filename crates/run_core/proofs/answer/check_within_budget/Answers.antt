@@ -5,7 +5,7 @@
 use Rattle.std.proofs.Common.{◌≡◌, [], ◌∷◌, Some, true, length, refl, sym, subst, ◌∙◌, rules}
 use Rattle.std.proofs.lemmas.Result.{err_from_is_err_and}
 use Rattle.prims_core.specs.declared.meter.Work.{Work}
-use Rattle.crypt_core.specs.Crypt.{IsAfterRefusedGrowth, crypt}
+use Rattle.crypt_core.specs.Crypt.{IsAfterFailedAllocation, crypt}
 use Rattle.crypt_core.specs.Standings.{IsAbove}
 use Rattle.crypt_core.specs.declared.stored.StoredField.TheVariants.{Hash}
 use Rattle.run_core.specs.Answers.{hashing, new_hash, new_hashing}
@@ -43,7 +43,7 @@ returns-in_err-make_hash-clause-settles g c =
     let p = err_from_is_err_and c.from_residual-in_err-make_hash.result c.from_residual-in_err-make_hash.ensures.1 in
     let same : crypt password stored.setting ≡ stored.text = c.in_ok-matches.ensures.verdict.0 c.if-not-branch.false in
     let outdated : is_outdated job stored.setting ≡ true = sym c.is_outdated-is_outdated.ensures ∙ c.if-not-is_outdated.false in
-    let refused = subst (λ (counts : Work). IsAfterRefusedGrowth counts (next_setting job.maker stream).scheme c.make_hash.new.meter) c.in_ok-matches.ensures.metered.count c.in_err-make_hash.ensures.refused in
+    let refused = subst (λ (counts : Work). IsAfterFailedAllocation counts (next_setting job.maker stream).scheme c.make_hash.new.meter) c.in_ok-matches.ensures.metered.count c.in_err-make_hash.ensures.refused in
     rw p.1 (
       within,
       Rehashed (new_hash job password stream),

@@ -1,7 +1,8 @@
 -- Proves the goals of `outcome_of`: its clause `settles` at each return, and the preconditions of `unwrap`. Since the
 -- line breaks no rule, neither its password nor its field is refused (`IsOk-never_refused`, `IsOk-field_not_refused`).
 -- At each return, what is known of the password and the field becomes a statement about the line, by `IsAnswer-audit`
--- if the line is to be audited, and otherwise by `Concludes_from_Settles`.
+-- if the line is to be audited, and otherwise by `Concludes_from_Settles`. In each `settles`, `line` is a line that has
+-- these parts and breaks no rule (`taken`).
 use Rattle.std.proofs.Common.{◌≡◌, ℕ, List, [], Option, Some, None, refl, sym, ap, subst, true≢false, rules}
 use Rattle.std.specs.Prelude.{◌≢◌, Result, Ok, Err}
 use Rattle.std.specs.Result.{IfErr, IsOk}
@@ -26,6 +27,7 @@ IsOk-never_refused : {A E : Type 0} (result : Result A E) (Refused : E → Type 
 IsOk-never_refused (Ok found) Refused refused never = search rules
 IsOk-never_refused (Err fault) Refused refused never = absurd (never fault refused)
 
+-- The same for a field: if it isn't refused, reading it succeeds.
 IsOk-field_not_refused : (field : List ℕ) (result : Result StoredField SettingFault) → IsFieldReading field result → ((fault : SettingFault) → ¬ IsFieldRefused field fault) → IsOk result
 IsOk-field_not_refused field (Ok found) reading never = search rules
 IsOk-field_not_refused field (Err fault) reading never = absurd (never fault reading)

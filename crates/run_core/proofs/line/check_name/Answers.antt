@@ -1,5 +1,6 @@
 -- Proves the goals of `check_name` where it refuses a line, by the lemmas of `LineRules`: the line is too long, its
--- name is empty, or its name is too long. `cut_front` gives the cut at the first colon, and so the name.
+-- name is empty, or its name is too long. These rules are the same for each kind of line, so each proof is for any
+-- `kind`. `cut_front` gives the cut at the first colon, and so the name.
 use Rattle.std.proofs.Common.{◌∙◌, sym, arith}
 use Rattle.std.proofs.lemmas.Bool.{eqb-true}
 use Rattle.run_core.specs.Makers.{bytes_of}

@@ -15,6 +15,7 @@ result_err-refused : {A : Type 0} (kind : Kind) (line : List ℕ) (result : Resu
 result_err-refused kind line (Ok unit) fault sound other refused = absurd (sound_not_refused kind line fault sound refused)
 result_err-refused kind line (Err other) fault sound first refused = ap Some (refusal_unique kind line other fault first refused)
 
+-- If the line is refused for some rule (`fault`, `refused`), `inspect` returns this rule.
 pub returns-clause-each_refusal : goal.returns-clause-each_refusal
 returns-clause-each_refusal c = λ fault refused.
     c.err.ensures.value ∙ result_err-refused c.args.kind c.args.line.now c.check.result fault c.check.ensures.sound c.check.ensures.refused refused

@@ -1,5 +1,5 @@
 -- The invariant of the loop in `answer_lines` is `IsRunning`, between the state at the call and the present state. The
--- loop ends since each pass lowers `to_read`, the number of bytes from which lines can still be cut.
+-- loop ends since each pass lowers `to_read`, the number of bytes that can still be split into lines.
 use Rattle.run_core.specs.Runs.{run_state}
 use Rattle.run_core.specs.Private.Headroom.{to_read}
 use Rattle.run_core.proofs.LinesRunning.{IsRunning}

@@ -24,5 +24,7 @@ returns-clause-checked g c = heeds_limit c.args.job.now
 pub returns-clause-refutes : goal.returns-clause-refutes
 returns-clause-refutes g c = refutes c.args.job.now
 
+-- The clause `rehash`: a job answers each line (`number`, `line`, `stream`, `answer`) in the same way with and without
+-- rehashes.
 pub returns-clause-rehash : goal.returns-clause-rehash
 returns-clause-rehash g c = λ number line stream answer. ((λ is. is), λ is. is)

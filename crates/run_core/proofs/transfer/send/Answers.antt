@@ -1,6 +1,6 @@
 -- Proves the goals of `send`. The invariant of its loop, `IsUnderWay`, holds at first, and each `give` that took bytes
--- keeps it. For the clause `some_turn`: if no I/O call was used, `rest` is still the whole text. At the end `rest` is
--- empty, so the text was empty.
+-- keeps it. The clause `some_turn` says that sending a text that isn't empty uses at least one I/O call: if no call was
+-- used, `rest` is still the whole text, and at the end `rest` is empty, so the text was empty.
 use Rattle.std.proofs.Common.{◌≡◌, arith, ap, length, inl, inr, sym, ◌∙◌}
 use Rattle.std.proofs.lemmas.Bool.{cases_lt, eqb-true}
 use Rattle.std.proofs.lemmas.List.{take_rest}

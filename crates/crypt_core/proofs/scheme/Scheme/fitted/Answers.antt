@@ -12,6 +12,7 @@ IfSome-first : (P Q : Scheme → Type 0) (fewer : Option Scheme) → IfSome fewe
 IfSome-first P Q (Some s) both = both.0
 IfSome-first P Q None both = tt
 
+-- Likewise for the second of them.
 IfSome-second : (P Q : Scheme → Type 0) (fewer : Option Scheme) → IfSome fewer (λ s. P s × Q s) → IfSome fewer Q
 IfSome-second P Q (Some s) both = both.1
 IfSome-second P Q None both = tt
@@ -32,6 +33,7 @@ returns-clause-none c =
     let above : c.args.limit < new_cost c.args.self.now c.args.password_len = omega (arith, c.new_cost.ensures.cost) in
     rw c.fewer_rounds.ensures (IfNone-fewer_rounds c.args.self.now c.args.limit c.args.password_len c.new_cost.ensures.in_range above)
 
+-- The clause `policy`: if the limit is at least the policy's own (`least`), some rounds fit.
 pub returns-clause-policy : goal.returns-clause-policy
 returns-clause-policy c = λ least.
     let above : c.args.limit < new_cost c.args.self.now c.args.password_len = omega (arith, c.new_cost.ensures.cost) in

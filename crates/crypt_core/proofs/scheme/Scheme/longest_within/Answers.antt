@@ -12,11 +12,12 @@ use Rattle.crypt_core.specs.declared.scheme.Scheme.{Scheme}
 use Rattle.crypt_core.proofs.CostGrowth.{cost_by-mono}
 use Rattle.crypt_core.proofs.scheme.Scheme.longest_within.Goals as goal
 
+-- A longer password, up to `password_limit`, does not cost less.
 new_cost-mono : (scheme : Scheme) (n most : ℕ) → IsScheme scheme → n ≤ most → most ≤ password_limit → new_cost scheme n ≤ new_cost scheme most
 new_cost-mono scheme n most in_range less short = cost_by-mono scheme n most (method_row (method_of scheme)).made_salt_length in_range less short
 
--- If a new hash for the length `within` is within the limit, and one for the next length isn't, exactly the lengths up
--- to `within` are.
+-- Suppose that a new hash of a password of length `within` costs at most the limit, and that one for the next length
+-- costs more. Then a new hash costs at most the limit exactly if its password has at most the length `within`.
 within-iff_le : (scheme : Scheme) (limit within above : ℕ) → IsScheme scheme → above ≡ within + 1 → within ≤ password_limit
     → new_cost scheme within ≤ limit → (above ≤ password_limit → limit < new_cost scheme above)
     → (len : ℕ) → len ≤ password_limit → (new_cost scheme len ≤ limit ↔ len ≤ within)
@@ -31,6 +32,7 @@ within-iff_le scheme limit within above in_range next most low high len short = 
   λ less. let more = new_cost-mono scheme len within in_range less most in omega (arith, more, low),
 )
 
+-- If even the empty password costs more than the limit, so does each password of a valid length (`len`, `short`).
 pub returns-then-new_cost-limit : goal.returns-then-new_cost-limit
 returns-then-new_cost-limit c = λ len short.
     let more = new_cost-mono c.args.self.now 0 len c.new_cost.ensures.in_range (omega arith) short in

@@ -1,5 +1,4 @@
--- The binary search of `Scheme::longest_within` ends because each step halves the distance between `within` and
--- `above`.
+-- The binary search of `Scheme::longest_within` ends because each step brings `within` and `above` closer together.
 use Rattle.std.proofs.Common.{◌+◌, ◌-◌, ◌<◌, ◌≤◌}
 use Rattle.crypt_core.specs.Passwords.{password_limit}
 use Rattle.crypt_core.specs.Policies.{new_cost}

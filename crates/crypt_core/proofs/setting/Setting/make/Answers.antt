@@ -1,7 +1,7 @@
 -- Proves the invariant and the clauses of `Setting::make` for each of its results: the error for a bad salt, the error
--- for a bad cost, or a setting. The setting is spelled by its canonical form, a bad salt breaks the first or second
--- rule, and a bad cost with a good salt the third. A method, a cost and a salt have at most one error (MadeSettings),
--- so `each_refusal` follows from `refused` and `accepted`.
+-- for bad rounds, or a setting. The canonical form spells the setting. For a bad salt, `given_salt` returns the error
+-- of the first broken rule; for a good salt with bad rounds, that error is `Cost`. The error of the first broken rule
+-- is unique (MadeSettings), so `each_refusal` follows from `refused` and `accepted`.
 use Rattle.std.proofs.Common.{◌≡◌, ◌∙◌, ap, rules, subst, sym}
 use Rattle.std.specs.Prelude.{Err, Some}
 use Rattle.crypt_core.specs.declared.setting.fault.MakeFault.{MakeFault}
@@ -44,6 +44,7 @@ returns-in_ok-scheme-in-Ok-clause-each_refusal c =
 pub returns-in-Err-clause-accepted : goal.returns-in-Err-clause-accepted
 returns-in-Err-clause-accepted c = false-iff_no_broken_rule c.args.method c.args.cost (Some c.args.salt.now) c.in-Err.fault (c.in-Err.ensures.err c.args.cost)
 
+-- If the method, the cost and the salt are refused for some error (`fault`, `refused`), this is the error returned.
 pub returns-in-Err-clause-each_refusal : goal.returns-in-Err-clause-each_refusal
 returns-in-Err-clause-each_refusal c = λ fault refused.
     ap (λ (f : MakeFault). Err f) (make_refusal_unique c.args.method c.args.cost (Some c.args.salt.now) c.in-Err.fault fault (c.in-Err.ensures.err c.args.cost) refused)

@@ -1,6 +1,6 @@
 -- Proves the clauses of `Setting::read` for each of its results: a setting, or the error for bad bytes, a bad prefix, a
--- bad cost or a bad salt. The result is either the setting that the text spells or the error of the first stage that
--- fails (FirstRefusal). Since a text has at most one reading (Refusals), `each_setting` and `each_refusal` follow.
+-- bad cost part or a bad salt. The result is either the setting that the text spells or the error of the first stage
+-- that fails (FirstRefusal). Since a text has at most one reading (Refusals), `each_setting` and `each_refusal` follow.
 use Rattle.std.specs.Prelude.{Err}
 use Rattle.std.proofs.Common.{sym, subst, ◌∙◌, rules}
 use Rattle.crypt_core.specs.Private.Parts.{SpellsSalt}

@@ -1,5 +1,6 @@
--- Proves the clause `err` of `given_salt`: a salt of the wrong length breaks the first rule, and one of the right
--- length with a character outside the alphabet breaks the second (MadeSettings).
+-- Proves the clause `err` of `given_salt`: a salt of the wrong length breaks the rule of `SaltLength`, and one of the
+-- right length with a character outside the alphabet breaks that of `SaltCharacter` (MadeSettings). Both rules come
+-- before the one on the cost, so the error is the same for any `cost`.
 use Rattle.std.proofs.Common.{◌≤◌, ◌<◌, inl, inr, length, All, Contains, arith, rules}
 use Rattle.prims_core.specs.Alphabet.{alphabet}
 use Rattle.crypt_core.specs.MethodLimits.{salt_limit}

@@ -1,5 +1,5 @@
--- Proves the clause `err` of `check_bytes`: a text that is too long fails at the first stage, and one that has a byte
--- that no setting has fails at the second (FirstRefusal).
+-- Proves the clause `err` of `check_bytes`: a text that is too long fails at the stage `TooLong`, and one that isn't
+-- but has a byte that no setting has fails at `BadCharacter` (FirstRefusal).
 use Rattle.std.proofs.Common.{All, arith, rules}
 use Rattle.crypt_core.specs.Settings.{IsSettingByte}
 use Rattle.crypt_core.proofs.FirstRefusal.{refused_bad_character, refused_too_long}

@@ -18,4 +18,4 @@ returns-in_err-p-clause-none c =
 
 pub returns-clause-some : goal.returns-clause-some
 returns-clause-some c =
-    scrypt_part-from_numerals c.args.after.now c.in_ok-log_n.log_n c.in_ok-r.r c.in_ok-p.p c.if-after-lt-COST_CHARACTERS.false c.in_ok-log_n.ensures.value.0 c.in_ok-log_n.ensures.value.1 c.in_ok-r.ensures.number.0 c.in_ok-r.ensures.number.1 c.in_ok-p.ensures.number.0 c.in_ok-p.ensures.number.1
+    scrypt_part-from_numerals c.args.after.now c.in_ok-log_n.log_n c.in_ok-r.r c.in_ok-p.p c.if-after-lt-SCRYPT_PART_LEN.false c.in_ok-log_n.ensures.value.0 c.in_ok-log_n.ensures.value.1 c.in_ok-r.ensures.number.0 c.in_ok-r.ensures.number.1 c.in_ok-p.ensures.number.0 c.in_ok-p.ensures.number.1

@@ -1,5 +1,6 @@
 -- Proves the clause `err` of `params_at`: the text fails first at the stage `BadCost` if characters are missing, at
--- `ScryptRange` if the numbers are out of range, or at `AboveCeiling` (FirstRefusal).
+-- `ScryptRange` if the numbers are out of range, or at `AboveCeiling` (FirstRefusal). The text has the length and the
+-- bytes of a setting (`t`), and is scrypt's prefix before `after` (`e`).
 use Rattle.kdf_core.specs.Params.{scrypt_params}
 use Rattle.crypt_core.proofs.FirstRefusal.{refused_bad_cost, refused_scrypt_range, refused_above_ceiling, SpellsScheme-scrypt}
 use Rattle.crypt_core.proofs.setting.read.params_at.Goals as goal

@@ -1,5 +1,6 @@
 -- Proves the clauses `ok` and `err` of `scheme_at`: scrypt's prefix and numbers spell its scheme, and a text without
--- any of the four prefixes has an unknown scheme (FirstRefusal).
+-- any of the four prefixes has an unknown scheme (FirstRefusal). In `found`, `.0.0` is what follows the numbers, `.0.1`
+-- that it follows them in `after`, and `.0.2` that the numbers can be spelled.
 use Rattle.std.proofs.Common.{sym, subst, ◌∙◌}
 use Rattle.crypt_core.specs.declared.scheme.Scheme.TheVariants.{Scrypt}
 use Rattle.crypt_core.specs.Settings.{SpellsScheme}

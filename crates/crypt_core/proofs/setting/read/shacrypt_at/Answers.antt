@@ -1,5 +1,7 @@
 -- Proves the clauses `ok` and `err` of `shacrypt_at` for a text with `rounds=`: a well-formed `rounds=` field spells
--- its rounds (SpelledRounds), and without such a field the text fails at the stage `BadRounds` (FirstRefusal).
+-- its rounds (SpelledRounds), and without such a field the text fails at the stage `BadRounds` (FirstRefusal). The text
+-- begins with the method's prefix, before `after` (`begins_with`), and in `err` it has the length and the bytes of a
+-- setting (`is_text`).
 use Rattle.crypt_core.specs.Settings.{rounds_word}
 use Rattle.crypt_core.specs.declared.scheme.Scheme.TheVariants.{Shacrypt}
 use Rattle.crypt_core.proofs.StrippedPrefix.{strip_prefix-some}

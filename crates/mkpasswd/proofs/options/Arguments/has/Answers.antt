@@ -11,6 +11,7 @@ use Rattle.clap.proofs.WalkLemmas.{one_text-rows}
 use Rattle.mkpasswd.specs.Options.{is_set}
 use Rattle.mkpasswd.proofs.options.Arguments.has.Goals as goal
 
+-- Whether a value is the text that `clap` stores for a flag that is given.
 abbrev is_true : Text → Bool
 is_true = bytes_eq (codes "true")
 

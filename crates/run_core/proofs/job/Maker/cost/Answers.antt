@@ -7,5 +7,7 @@ use Rattle.run_core.proofs.job.Maker.cost.Goals as goal
 pub returns-clause-number : goal.returns-clause-number
 returns-clause-number c = search rules
 
+-- The clause `each`: whatever random numbers a salt is made from (`numbers`), hashing with that setting has the cost
+-- returned.
 pub returns-clause-each : goal.returns-clause-each
 returns-clause-each c = λ numbers. cost-setting_by c.args.self.now numbers c.args.password_len ∙ sym (returns-clause-number c)

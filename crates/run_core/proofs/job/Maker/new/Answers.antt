@@ -1,6 +1,6 @@
 -- Proves the goals of `Maker::new` at its four returns. With a salt, its clauses are those of `Setting::make`, moved
 -- from the salt in the branch to the argument (`accepted-same_salt`). Without a salt, they follow from what
--- `Scheme::made` returned, since only the cost can be refused (`MakerCosts`).
+-- `Scheme::made` returned, since only the rounds can be refused (`MakerCosts`).
 use Rattle.std.proofs.Common.{◌≡◌, ℕ, List, ap, refl, subst, sym, ◌∙◌}
 use Rattle.std.specs.Prelude.{◌↔◌, Err, None, Option, Some}
 use Rattle.crypt_core.specs.MadeSettings.{BreaksMake, IsMakeRefused}
@@ -31,12 +31,15 @@ returns-in-Err-made-clause-refused c =
     subst (λ (salt : Option (List ℕ)). IsMakeRefused c.args.method c.args.cost salt c.in-Err-made.fault) (sym (ap bytes_of c.in-None.is))
     (IsMakeRefused-not_accepted c.args.method c.args.cost c.in-Err-made.fault c.in-Err-made.ensures.refused c.in-Err-made.ensures.accepted)
 
+-- The clause `each_refusal`: if the method, the rounds and the salt are refused for some error (`fault`, `refused`),
+-- this is the error returned. `alone` says the same of the case without a salt, where the error can only be `Cost`.
 pub returns-in-Err-made-clause-each_refusal : goal.returns-in-Err-made-clause-each_refusal
 returns-in-Err-made-clause-each_refusal c = λ fault refused.
     let alone : IsMakeRefused c.args.method c.args.cost None fault =
     subst (λ (salt : Option (List ℕ)). IsMakeRefused c.args.method c.args.cost salt fault) (ap bytes_of c.in-None.is) refused in
     ap (λ (f : MakeFault). Err f) (c.in-Err-made.ensures.refused ∙ sym (IsMakeRefused-only_Cost c.args.method c.args.cost fault alone).0)
 
+-- If `Scheme::made` accepted the cost, nothing is refused without a salt.
 pub returns-in-Ok-made-clause-each_refusal : goal.returns-in-Ok-made-clause-each_refusal
 returns-in-Ok-made-clause-each_refusal c = λ fault refused.
     let alone : IsMakeRefused c.args.method c.args.cost None fault =

@@ -1,4 +1,5 @@
-/* Calls whose size argument is larger than `out`. gcc must warn about each marked line. */
+/* Calls whose size argument, MKPASSWD_TEXT_SIZE, is larger than `out`. gcc must warn about each
+ * marked line. */
 #include <mkpasswd.h>
 
 int main(void)
