@@ -694,7 +694,7 @@ const users = new Map(stored.map((field, place) => [place, field]));
 
 
 def test_program_of_readme_finds_the_lowest_budget(user: Site, web_build: Path) -> None:
-    program = program_of_readme(web_build, "If that is too few")
+    program = program_of_readme(web_build, "More logins at once")
     printed = """
 import { Policy } from 'mkpasswd';
 const { passwordLength } = new Policy({ budget }).limit;
@@ -782,7 +782,7 @@ def assert_accepted(user: Site, text: str, modules: Sequence[str] = NODENEXT) ->
     [
         pytest.param("A first login", "js", USERS + TYPED + LET_IN, id="a login"),
         pytest.param("When a failure is answered", "js", "", id="a measurement"),
-        pytest.param("If that is too few", "js", USERS, id="a budget"),
+        pytest.param("More logins at once", "js", USERS, id="a budget"),
         pytest.param("Numbers of pwhash calibrate", "js", "", id="numbers of calibrate"),
         pytest.param("Users whom no login lets in", "js", USERS, id="a search for users"),
         pytest.param("Another policy", "js", "", id="a policy"),

@@ -121,7 +121,7 @@ def with_password(line: Line, passwords: Dict[bytes, bytes], source: Source) -> 
     if name not in passwords:  # the earlier run had another FILE, or other locked names
         raise UsageError(
             f"{source.name}, line {line.number}: the name has no password in the lists. Remove "
-            "them and OUT.part, and start again."
+            "them and OUT.part, and run the command without --resume."
         )
     return line._replace(data=name + b":" + passwords[name])
 
@@ -140,7 +140,7 @@ def store_passwords(
         if os.fstat(part.fd).st_size:
             raise UsageError(
                 f"{part.name} has hashes of passwords that were in {target.display_name}, "
-                f"which is gone. Remove {part.name}, and start again."
+                f"which is gone. Remove {part.name}, and run the command without --resume."
             )
         names = new_passwords(groups, generate)
         refuse_changed(source, part)

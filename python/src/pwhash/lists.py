@@ -207,7 +207,8 @@ def changed_list_error(file: FileInFolder, problem: str) -> UsageError:
     """Returns the error for a list that has changed since a run wrote it."""
     return UsageError(
         f"{file.display_name} isn't as the earlier run left it ({problem}), so --resume "
-        "doesn't know the passwords. Remove the lists and OUT.part, and start again."
+        "doesn't know the passwords. Remove the lists and OUT.part, and run the command without "
+        "--resume."
     )
 
 

@@ -51,7 +51,8 @@ class Locked(Skipping):
         if self._names - before:
             remedy = f"remove {part_name}" if part_name else "discard the hashes"
             raise UsageError(
-                f"a name was locked in {self.file} during the run: {remedy}, and start again."
+                f"a name was locked in {self.file} during the run: {remedy}, and run the command "
+                "again."
             )
 
     def _read(self) -> Set[bytes]:

@@ -128,8 +128,8 @@ class Part:
         if not own_file.has_name(self.fd, self._out):
             raise Stop(
                 f"{self.out_name} isn't what was written: another file took the place of "
-                f"{self.name}. Remove {self.out_name}, and start again in a folder in which only "
-                "you can write."
+                f"{self.name}. Remove {self.out_name}, and run the command again in a folder in "
+                "which only you can write."
             )
 
     def _out_exists_error(self) -> Stop:
@@ -166,7 +166,8 @@ def describe_change(source: Source, part: Optional[Part]) -> Optional[str]:
     if what is None:
         return None
     remedy = f"remove {part.name}" if part else "discard the hashes"
-    return f"{source.name} was changed during the run ({what}): {remedy}, and start again."
+    then = f"{remedy}, and run the command again"
+    return f"{source.name} was changed during the run ({what}): {then}."
 
 
 def refuse_changed(source: Source, part: Optional[Part]) -> None:
@@ -291,11 +292,13 @@ def refuse_another_file(
         refuse_newer(file, status, source)
         before = ResumeState(now.file, b"", now.choice, b"")
     if before == resume_state.INCOMPLETE:
-        raise UsageError(f"{name_of_state} is incomplete. Remove {both}, and start again.")
+        raise UsageError(
+            f"{name_of_state} is incomplete. Remove {both}, and run the command without --resume."
+        )
     if before.file != now.file:
         raise UsageError(
             f"{name} isn't from {source.name} as it is now: that is another file, or was "
-            f"changed or touched since. Remove {both}, and start again."
+            f"changed or touched since. Remove {both}, and run the command without --resume."
         )
     if options.resume:
         refuse_other_options(before, now, name, both)
@@ -306,12 +309,13 @@ def refuse_other_options(before: ResumeState, now: ResumeState, name: str, both:
     if before.options != now.options:
         raise UsageError(
             f"{name} was started with other --windows, --csv, --columns, --generate, --by or "
-            f"--list-columns. Give those, or remove {both}, and start again."
+            f"--list-columns. Give those; or remove {both}, and run the command without --resume."
         )
     if before.choice != now.choice:
         raise UsageError(
             f"{name} was started {describe_difference(before, now)}, so other lines may have been "
-            f"left out. Give the options of that run, or remove {both}, and start again."
+            f"left out. Give the options of that run; or remove {both}, and run the command "
+            "without --resume."
         )
 
 
