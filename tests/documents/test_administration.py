@@ -620,6 +620,46 @@ def test_accounts_whose_password_is_listed_move_to_another_method(machine: Machi
     assert changed == ["ann"], followed.lacks(f"ann alone has changed, and not {changed}")
 
 
+# ---- Which of several passwords a hash was made of
+
+WITH_BLANKS = " Grüße  ".encode()
+MAILED = "> ann:" + OUTDATED[:30] + "\r\n> " + OUTDATED[30:] + "\r\n"  # "password", in a reply
+# libxcrypt's hash of WITH_BLANKS.
+OF_BLANKS = "$5$rounds=1000$ab$CO8mk19wbVF0HsT3kiAX8JjF4IZstDGTxTocwskVGy."
+
+
+@pytest.mark.parametrize(
+    ("stored", "candidates", "matching"),
+    [
+        pytest.param(OUTDATED + "\n", b"guess\npassword\n\nother\n", b"password\n", id="one"),
+        pytest.param(OUTDATED, b"guess\npassword", b"password\n", id="no line feeds at the ends"),
+        pytest.param(MAILED, b"passwor\npassword\nPassword\n", b"password\n", id="from a mail"),
+        pytest.param(
+            OF_BLANKS, b"Gr\\n\n" + WITH_BLANKS + b"\nx\n", WITH_BLANKS + b"\n", id="blanks"
+        ),
+        pytest.param(OUTDATED, b"guess\n-n\n%s\n", b"", id="none"),
+    ],
+)
+def test_the_password_of_a_hash_is_found_among_several(
+    machine: Machine, stored: str, candidates: bytes, matching: bytes
+) -> None:
+    machine.write("hash", stored.encode("ascii"))
+    machine.write("candidates", candidates)
+    followed = machine.follow("one of several")
+    assert followed.result.stdout == matching, followed.lacks(f"{matching!r} printed")
+    assert followed.errors == "", followed.lacks("no messages")
+
+
+def test_a_hash_that_cannot_be_checked_is_reported_while_several_passwords_are_tried(
+    machine: Machine,
+) -> None:
+    machine.write("hash", YESCRYPT_OF_PASSWORD.encode("ascii"))
+    machine.write("candidates", b"guess\npassword\n")
+    followed = machine.follow("one of several")
+    assert followed.result.stdout == b"", followed.lacks("no password")
+    assert "a hash of yescrypt" in followed.errors, followed.lacks("a message about the hash")
+
+
 # ---- Audits
 
 AUDITED = {
