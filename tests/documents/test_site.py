@@ -196,7 +196,7 @@ class Tree:
         file.write_text(text.replace(old, new), encoding="utf-8")
 
     def write_site(self) -> Site:
-        """Writes the pages."""
+        """Has tools/site write the documents' pages into a folder."""
         folder = self.folder / "site"
         folder.mkdir()
         return Site(folder, run(self.folder / "tools/site", folder))

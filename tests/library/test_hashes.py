@@ -28,7 +28,8 @@ from support.policies import POLICIES
 from support.stored_fields import KNOWN_HASHES, LONGEST_PASSWORD, SCRYPT_WITH_LONGEST_SALT
 
 CHEAP = 500_000  # a cost below which a test makes a hash many times
-# Lengths at which a new block of a digest, or a new byte of the encoded length, begins.
+# Lengths at which a new block of a digest, or a new byte of the encoded length, begins, and their
+# neighbours.
 LENGTHS = (
     0,
     1,

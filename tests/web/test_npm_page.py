@@ -826,7 +826,10 @@ TYPED_CONFIRM_FIELD = "confirmField(name: string, field?: string, renewed?: stri
 
 
 def with_types(program: str) -> str:
-    """Returns a program that declares the parameters of its functions, nearly all as strings."""
+    """Returns the program with types for TypeScript.
+
+    Its functions' parameters are strings, but two of confirmField's are optional.
+    """
     declaration = f"function {CONFIRM_FIELD}"
     assert declaration in program
 

@@ -87,7 +87,8 @@ CALLS = ["verify", "login", "loginAsync"]
     ("log_n", "r", "p", "calls"),
     [
         pytest.param(14, 32, 1, CALLS, id="64 MiB, the program's default"),
-        # With the hash itself, one call in this thread and one in a worker: each takes seconds.
+        # Each hash of 1 GiB takes seconds, so only one call is tried: `checked` makes the hash in
+        # this thread, and loginAsync checks it in a worker.
         pytest.param(18, 32, 1, ["loginAsync"], id="1 GiB", marks=pytest.mark.slow),
         pytest.param(10, 8, 3, CALLS, id="three parts"),
         pytest.param(2, 1, 1, CALLS, id="four rows of 128 bytes"),

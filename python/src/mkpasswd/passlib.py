@@ -67,7 +67,7 @@ class _Crypt(GenericHandler, metaclass=ABCMeta):
 
     @classmethod
     def policy(cls) -> Policy:
-        """The handler's method, rounds and budget."""
+        """Return a policy with the handler's method, rounds and budget."""
         rounds = getattr(cls, "default_rounds", None)
         return Policy(cls.name.replace("_", ""), rounds, cls.budget)
 

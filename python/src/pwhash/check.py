@@ -83,7 +83,7 @@ class Checking:
         self._has_bad_line = False
 
     def has_problem(self) -> bool:
-        """Whether a password was wrong, or a line had a problem."""
+        """Returns whether a password was wrong, or a line had a problem."""
         accounts = self._accounts
         if self._has_bad_line or accounts is None:
             return self._has_bad_line
@@ -226,7 +226,7 @@ class Checking:
             return library.verify(fields.password, fields.stored, budget)
 
     def _has_budget_for_both(self, fields: FieldsToCheck) -> bool:
-        """Whether the check and the new hash together cost at most the budget."""
+        """Returns whether the check and the new hash together cost at most the budget."""
         policy, length = self._options.policy, len(fields.password)
         cost = library.cost(fields.stored, length) + library.new_cost(policy, length)
         return cost <= policy.budget

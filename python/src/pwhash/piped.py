@@ -47,11 +47,14 @@ class PipedLines:
         return self._next_until(math.inf)
 
     def next_within(self, seconds: float) -> Optional[bytes]:
-        """Waits so long for the next line, and returns it, or None."""
+        """Waits at most this long for the next line, and returns it, or None."""
         return self._next_until(time.monotonic() + seconds)
 
     def next_at_once(self) -> Optional[bytes]:
-        """Returns the next line if it is there already, or None. The limit doesn't matter."""
+        """Returns the next line if it is there already, or None.
+
+        Ignores the limit, since it reads at most one piece.
+        """
         line = self._take_line()
         if line is None and not self._is_end:
             self._read()
