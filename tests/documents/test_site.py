@@ -38,7 +38,7 @@ class Site:
 
 
 def write_site(folder: Path, env: Changes | None = None, cwd: Path | None = None) -> Site:
-    """Writes the pages into a folder."""
+    """Has tools/site write this tree's pages into a folder."""
     folder.mkdir()
     return Site(folder, run(ROOT / "tools/site", folder, env=env, cwd=cwd))
 

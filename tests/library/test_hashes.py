@@ -144,7 +144,7 @@ def by_libxcrypt(settings: list[bytes]) -> list[Hashed]:
 
 
 def with_the_longest_password() -> list[Hashed]:
-    """Returns the model's hashes of 1,024 bytes, which libxcrypt refuses."""
+    """Returns the model's hashes of passwords of 1,024 bytes, which libxcrypt refuses."""
     hashes = []
     for number, text in enumerate((b"$5$rounds=1000$saltstringsaltst", b"$7$20....0....NaCl")):
         known = hash_of(read_setting(text), LONGEST_PASSWORD)

@@ -144,6 +144,7 @@ OF_BCRYPT = "$2b$05$abcdefghijklmnopqrstuuqDsKnOFqPaNCEhHd5ZzD0Y1nJ1xN0cG"
 @pytest.mark.parametrize(
     ("field", "password", "reason"),
     [
+        # The recommended policy admits 168 bytes.
         pytest.param(CHECKED, "x" * 169, "too long", id="a password that is too long"),
         pytest.param(CHECKED, "wrong", "wrong password", id="an outdated hash"),
         pytest.param(RECOMMENDED, "wrong", "wrong password", id="a current hash"),

@@ -49,7 +49,7 @@ def of_hashlib(log_n: int, r: int, p: int) -> str:
         n=1 << log_n,
         r=r,
         p=p,
-        maxmem=(1 << 31) - 2,  # nearly the most that hashlib accepts
+        maxmem=(1 << 31) - 2,  # one byte less than the most that hashlib accepts
         dklen=32,
     )
     groups = [digest[begin : begin + 3] for begin in range(0, len(digest), 3)]
@@ -285,7 +285,7 @@ def test_instance_that_traps_is_wiped_and_replaced(report_of: Callable[..., Repo
 
 
 def test_login_in_the_callers_thread_keeps_no_memory(report_of: Callable[..., Report]) -> None:
-    """Each has an instance of its own, which is garbage then. The first instance never grows."""
+    """Each login has an instance of its own, which is then garbage. The first one never grows."""
     rows = logins_at_once(5)
     report = report_of("inThisThread", rows)
     assert report["matches"] == matches(rows), report

@@ -133,7 +133,10 @@ class _Rounds(_Crypt, metaclass=ABCMeta):
 
     @classmethod
     def _least_rounds(cls, secret: Any) -> int:
-        """Returns the rounds of a new hash: for this password, if it is known."""
+        """Returns the rounds of a new hash: fewer than the default for a long password.
+
+        A password that isn't known counts as a short one.
+        """
         if secret is not None:
             with suppress(ValueError):
                 return cls._rounds_within_limit(secret, cls.default_rounds)

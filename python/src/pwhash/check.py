@@ -36,9 +36,10 @@ PASSWORD_REFUSALS = (LINE_TOO_LONG, PASSWORD_TOO_LONG, PASSWORD_ZERO_BYTE)
 
 
 def run(options: CheckOptions, session: Session) -> bool:
-    """Checks lines name:field:password, where the field is what is stored: a hash, ! or nothing.
+    """Checks lines name:field:password, or with --shadow the passwords of a list.
 
-    Returns whether a password is wrong, or a line has a problem.
+    The field is what is stored: a hash, ! or nothing. Returns whether a password is wrong, or a
+    line has a problem.
     """
     source = Source(options.input, session.console)
     checking = Checking(options, source, session)

@@ -34,7 +34,7 @@ def fold(field: bytes) -> str:
 
 
 def is_of_passwords(heading: str) -> bool:
-    """Returns whether a heading, in a column before that of the names, is one of passwords."""
+    """Returns whether a folded heading is one of passwords, even a short one such as pw."""
     return heading in PASSWORDS or heading in SHORT_PASSWORDS
 
 

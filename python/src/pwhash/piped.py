@@ -31,7 +31,7 @@ class PipedLines:
         self._too_long = UsageError("")
 
     def limit(self, count: int, too_long: UsageError) -> None:
-        """From here on, lines with more bytes than this in all end the run with this error."""
+        """Ends the run with this error if the lines from here on have more bytes in all."""
         self._bytes_left, self._too_long = count, too_long
 
     def password(self) -> bytes:
