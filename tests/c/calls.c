@@ -463,7 +463,8 @@ static void print_answer(struct job *job, int32_t result)
         work->table, work->scratch, allocations, blocks_kept, bytes_drawn, quote, left, quote);
 }
 
-/* Makes the call of a job, with a report that is full of this byte, or with a null report. */
+/* Makes the call of a job. A report is full of this byte before it; without has_report, the report
+ * and the policy are null pointers. */
 static int32_t make(struct job *job, bool has_report, int byte)
 {
     struct call *call = &job->call;
@@ -499,7 +500,7 @@ __attribute__((noinline)) static void perform(struct job *job)
     size_t stack_above = (size_t)((uint8_t *)&job - job->stack);
     *(volatile uint8_t *)__builtin_alloca(stack_above - STACK_LEFT) = 0;
 #endif
-    print_answer(job, make(job, true, kind->has_report ? 0xff : 0));
+    print_answer(job, make(job, /* has_report */ true, kind->has_report ? 0xff : 0));
     if (is_drawn) /* the second salt would differ */
         return;
     memcpy(job->first, job->line, sizeof job->first);

@@ -488,7 +488,7 @@ class Job:
         return Followed(marked("nightly job", "sh"), result)
 
     def has_succeeded(self) -> bool:
-        """Returns whether the command by which it is watched says so."""
+        """Returns whether the recipe's command that watches the job finds that it succeeded."""
         command = marked("nightly job watched", "sh").code.replace(
             "/root/accounts", shlex.quote(str(self.folder))
         )
@@ -670,7 +670,7 @@ AUDITED = {
     "sam": MALFORMED,
     "tom": YESCRYPT,
 }
-# The rows of an audit for some of these.
+# The rows of an audit for some accounts of AUDITED.
 ROWS_THAT_NEED_CARE = {
     "ann": "ann sha256crypt 1000 outdated",
     "eve": "eve sha256crypt 1000 outdated",

@@ -73,7 +73,7 @@ def fixture_surroundings(
 
 
 def in_shell(start: Start, name: str, *needed: str) -> object:
-    """Returns a shell as a parameter. Its tests are skipped if something is missing."""
+    """Returns a shell as a parameter, whose tests are skipped without the packages it needs."""
     return pytest.param(start, id=name, marks=pytest.mark.needs("python3-pexpect", *needed))
 
 

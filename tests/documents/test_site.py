@@ -38,7 +38,7 @@ class Site:
 
 
 def write_site(folder: Path, env: Changes | None = None, cwd: Path | None = None) -> Site:
-    """Writes the pages into a folder."""
+    """Has tools/site write this tree's pages into a folder."""
     folder.mkdir()
     return Site(folder, run(ROOT / "tools/site", folder, env=env, cwd=cwd))
 
@@ -196,7 +196,7 @@ class Tree:
         file.write_text(text.replace(old, new), encoding="utf-8")
 
     def write_site(self) -> Site:
-        """Writes the pages."""
+        """Has tools/site write the documents' pages into a folder."""
         folder = self.folder / "site"
         folder.mkdir()
         return Site(folder, run(self.folder / "tools/site", folder))

@@ -49,7 +49,7 @@ INVALID = (
     ),
 )
 # For each of these lengths, the budgets are the cost of a new hash of such a password, one more,
-# and one less.
+# and one less. The recommended policy admits 168 bytes, so 169 is one too many.
 LENGTHS_OF_BUDGETS = (0, 8, 64, 65, 169, 1023, 1024)
 TOO_LONG = (LONGEST_PASSWORD + 1, GREATEST_32 + 1, GREATEST_32 + 9, GREATEST)
 LENGTHS = (0, 64, 169, LONGEST_PASSWORD, *TOO_LONG)
@@ -89,7 +89,10 @@ def test_calls_report_the_same_in_eight_threads(driver: Driver) -> None:
 def test_a_budget_admits_the_longest_password_whose_hash_costs_no_more(
     driver: Driver, policy: Policy
 ) -> None:
-    """Tests those lengths whose cost differs from that of the next length."""
+    """Tests those lengths whose cost differs from that of the next length.
+
+    168 is the longest that the recommended policy admits.
+    """
     setting = policy.setting
     for length in (0, 8, 64, 168):
         budget = cost(setting, length + 1) - 1

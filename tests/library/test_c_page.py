@@ -101,7 +101,7 @@ def test_the_longest_hash_is_read_whole(service: Path) -> None:
 
 
 def test_a_field_that_is_longer_than_a_hash_lets_nobody_in(service: Path) -> None:
-    """If it were cut, it would be a hash of this password."""
+    """Cut to the length of a hash, the field would be a hash of this password."""
     longer = LONGEST + b"x"
     result = run(service, longer, "password")
     assert_result(result, status=1, stdout=longer + b"\n", stderr=b"ann: locked\n")

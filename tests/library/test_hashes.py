@@ -28,7 +28,8 @@ from support.policies import POLICIES
 from support.stored_fields import KNOWN_HASHES, LONGEST_PASSWORD, SCRYPT_WITH_LONGEST_SALT
 
 CHEAP = 500_000  # a cost below which a test makes a hash many times
-# Lengths at which a new block of a digest, or a new byte of the encoded length, begins.
+# Lengths at which a new block of a digest, or a new byte of the encoded length, begins, and their
+# neighbours.
 LENGTHS = (
     0,
     1,
@@ -143,7 +144,7 @@ def by_libxcrypt(settings: list[bytes]) -> list[Hashed]:
 
 
 def with_the_longest_password() -> list[Hashed]:
-    """Returns the model's hashes of 1,024 bytes, which libxcrypt refuses."""
+    """Returns the model's hashes of passwords of 1,024 bytes, which libxcrypt refuses."""
     hashes = []
     for number, text in enumerate((b"$5$rounds=1000$saltstringsaltst", b"$7$20....0....NaCl")):
         known = hash_of(read_setting(text), LONGEST_PASSWORD)

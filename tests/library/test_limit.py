@@ -45,6 +45,7 @@ def documented_length(method: Method) -> int:
 
 
 LONGEST = {number: documented_length(method) for number, method in METHODS.items()}
+# For SHA-crypt: one byte more than sha512crypt's limit admits, and the most that any call accepts.
 TOO_LONG = [
     (number, length) for number in METHODS for length in (169, 1024) if length > LONGEST[number]
 ]

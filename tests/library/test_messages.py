@@ -14,7 +14,7 @@ from support.model.calls import (
     in_each_form,
 )
 
-# 0 for no error, and numbers next to the known ones.
+# 0 for no error, the numbers after the known ones, and the ends of signed and unsigned 32 bits.
 UNKNOWN_ERRORS = (0, len(Reason) + 1, len(Reason) + 2, 2**31 - 1, 2**31, 2**32 - 1)
 
 
@@ -59,7 +59,7 @@ def test_a_scheme_has_its_name(driver: Driver, number: int, name: str) -> None:
     driver.assert_matches_model(in_each_form(*calls))
 
 
-# 0, and numbers next to the known ones.
+# 0, numbers next to the known ones, and the greatest of 32 bits.
 UNKNOWN_SCHEMES = (0, 2, 3, 4, 8, 100, 109, 2**32 - 1)
 
 

@@ -22,7 +22,7 @@ MOST_SALT_OF_SHA_CRYPT = 16
 MOST_SALT_OF_SCRYPT = 86
 
 LONGEST_OF_LIBXCRYPT = 511  # bytes of a password
-# Lengths in bytes around the ends of digests and blocks.
+# Lengths in bytes: the least and the most, and those around the ends of digests and blocks.
 EDGE_LENGTHS = (
     0,
     1,

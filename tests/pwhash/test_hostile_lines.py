@@ -83,11 +83,11 @@ class Job:
         return b"\n".join(lines)
 
     def by_mkpasswd(self, program: Path) -> Result:
-        """Runs a single mkpasswd."""
+        """Runs a single mkpasswd on the lines."""
         return run(program, self.mode, *self.words, BUDGET, stdin=self.lines())
 
     def by_pwhash(self, *words: str, stdin: bytes = b"") -> Result:
-        """Runs pwhash."""
+        """Runs the command of pwhash, with options that let it hash doubtful lines."""
         return run(PWHASH, self.command, *self.words, BUDGET, *self.more, *words, stdin=stdin)
 
 

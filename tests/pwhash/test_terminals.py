@@ -135,7 +135,7 @@ def test_no_message_shows_the_typed_password(typed: list[bytes]) -> None:
     screen += child.before
     child.close()
     for text in screen, read("log"):
-        # Neither the password nor Python's form of a value or an error that has it.
+        # No text may show the password, or Python's form of a value or an error that contains it.
         assert not re.search(rb"Secret|\\x|Error\(", text), (screen, read("log"))
 
 

@@ -28,7 +28,7 @@ TASKS = {
     "lock": f"it is {{{{ ('!' + stored) {UNLOCKED} }}}}",
     "asterisk": f"it is {{{{ '*' {UNLOCKED} }}}}",
     "hash": f"it is {{{{ stored {UNLOCKED} }}}}",
-    "relocked": f"{{{{ 'password' | {HASH}('md5crypt', current='!' + stored) }}}}",
+    "replaced_locked": f"{{{{ 'password' | {HASH}('md5crypt', current='!' + stored) }}}}",
     "weak": f"{{{{ 'password' | {HASH}('sha512crypt', 12) }}}}",
     "new": f"{{{{ 'pässword' | {HASH}('sha512crypt', 6000) }}}}",
     "kept": f"{{{{ vaulted | {HASH}('md5crypt', current=stored) }}}}",
@@ -134,7 +134,7 @@ def test_the_condition_of_the_recipe_skips_locked_accounts(
         pytest.param("new", "pässword", "$6$rounds=6000$", id="a new password"),
         pytest.param("renewed", "password", "$6$rounds=656000$", id="an outdated hash"),
         pytest.param("changed", "passw0rd", "$1$", id="another password"),
-        pytest.param("relocked", "password", "$1$", id="a locked hash"),
+        pytest.param("replaced_locked", "password", "$1$", id="a locked hash"),
         pytest.param("replaced", "password", "$1$", id="another scheme"),
     ],
 )

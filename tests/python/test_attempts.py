@@ -17,7 +17,7 @@ SECRET = b"secret"
 # How many attempts within an hour the document's code lets go on.
 MOST_FOR_NAME = 10
 MOST_FROM_NETWORK = 100
-# Which of one attempt too many for a name may go on.
+# Whether each attempt for a name may go on, if there is one too many.
 ALL_BUT_THE_LAST = [True] * MOST_FOR_NAME + [False]
 
 

@@ -53,7 +53,7 @@ class Service:
         return Client(client)
 
     def change(self, statement: str, *words: object) -> None:
-        """Changes the database."""
+        """Executes an SQL statement, with these words as its parameters, and commits it."""
         with contextlib.closing(sqlite3.connect("users.db")) as database:
             database.execute(statement, words)
             database.commit()

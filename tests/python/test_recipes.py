@@ -243,7 +243,7 @@ class Change:
         return self.text if self.password is None else current_hash(self.password, "salt")
 
     def make(self, users: sqlite3.Connection) -> None:
-        """Changes the account."""
+        """Executes the statement, with the field as its parameter."""
         users.execute(self.statement, {"field": self.field})
 
 

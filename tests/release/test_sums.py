@@ -46,7 +46,7 @@ class Place:
     folder: Path
 
     def sums(self, changes: Changes | None = None) -> Result:
-        """Runs the command."""
+        """Runs the tree's tools/sums for the folder."""
         environment = {"RT": str(self.tree / "rt"), "SOURCE_DATE_EPOCH": None, **(changes or {})}
         return run(self.tree / "tools/sums", self.folder, env=environment)
 

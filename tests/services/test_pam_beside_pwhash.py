@@ -103,7 +103,7 @@ class Administrator:
     results: list[Result] = field(default_factory=list)
 
     def change(self, words: Sequence[str], name: str) -> None:
-        """Changes a line."""
+        """Runs `pwhash set` with these options for a name until it isn't killed."""
         command = self.machine.entering(PWHASH, "set", *words, FILE, name)
         result = self.run_to_the_end(command)
         self.results.append(result)
@@ -140,7 +140,7 @@ class Visit:
     seconds: float  # until it is killed
 
     def make(self, machine: Namespaces) -> Result:
-        """Makes the visit."""
+        """Runs pamtester for the visit, and kills it after the visit's seconds."""
         command = machine.entering("pamtester", "example", self.name, self.operation)
         return run(*command, stdin=self.typed + b"\n", timeout=self.seconds)
 

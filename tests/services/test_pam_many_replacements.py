@@ -88,7 +88,7 @@ class Judge:
 
 @dataclass
 class Watcher:
-    """Watches the file."""
+    """Reads the file again and again, and keeps what is wrong with it."""
 
     path: Path
     judge: Judge

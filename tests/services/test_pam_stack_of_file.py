@@ -51,7 +51,7 @@ class Stack:
         return f"{self.title}, with renew" if self.renews else self.title
 
     def lines(self) -> str:
-        """Returns all lines."""
+        """Returns the lines before the manual's stack, the stack, and the lines after it."""
         stack = stacks_of_manual().of_file
         if self.renews:
             stack = re.sub(r"file=\S+", f"file={RENEWED_FILE} renew", stack)

@@ -113,18 +113,18 @@ class Namespaces:
         return Path(f"/proc/{self.holder}/root{path}")
 
     def read(self, path: str) -> bytes:
-        """Reads a file."""
+        """Returns the content of a file of the machine."""
         return self.path(path).read_bytes()
 
     def write(self, path: str, content: bytes | str, mode: int | None = None) -> None:
-        """Writes a file. By default an existing file keeps its mode."""
+        """Writes a file of the machine. By default an existing file keeps its mode."""
         file = self.path(path)
         file.write_bytes(content.encode() if isinstance(content, str) else content)
         if mode is not None:
             file.chmod(mode)
 
     def append(self, path: str, content: bytes | str) -> None:
-        """Appends to a file."""
+        """Appends to a file of the machine."""
         self.write(
             path, self.read(path) + (content.encode() if isinstance(content, str) else content)
         )

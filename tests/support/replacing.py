@@ -185,7 +185,7 @@ def replace(path: Path, name: bytes, old: bytes, new: bytes) -> None:
 
 
 def main(arguments: list[str]) -> int:
-    """Runs the command."""
+    """Replaces a field as the arguments say, and returns the exit status."""
     path, name, old, new = arguments
     try:
         replace(Path(path), name.encode(), old.encode(), new.encode())

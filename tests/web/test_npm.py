@@ -128,7 +128,7 @@ def test_failure_that_takes_too_long_is_answered_at_a_multiple_of_its_time(queue
 
 
 def test_login_is_answered_while_failures_wait(queue: Report) -> None:
-    """If failures kept their workers while they wait, no worker would be left for it."""
+    """If failures kept their workers while they wait, no worker would be left for this login."""
     assert queue["beside"] == {"result": {"matches": True}, "waiting": FAILURES_THAT_WAIT}
 
 

@@ -144,6 +144,7 @@ OF_BCRYPT = "$2b$05$abcdefghijklmnopqrstuuqDsKnOFqPaNCEhHd5ZzD0Y1nJ1xN0cG"
 @pytest.mark.parametrize(
     ("field", "password", "reason"),
     [
+        # The recommended policy admits 168 bytes.
         pytest.param(CHECKED, "x" * 169, "too long", id="a password that is too long"),
         pytest.param(CHECKED, "wrong", "wrong password", id="an outdated hash"),
         pytest.param(RECOMMENDED, "wrong", "wrong password", id="a current hash"),
@@ -826,7 +827,10 @@ TYPED_CONFIRM_FIELD = "confirmField(name: string, field?: string, renewed?: stri
 
 
 def with_types(program: str) -> str:
-    """Returns a program that declares the parameters of its functions, nearly all as strings."""
+    """Returns the program with types for TypeScript.
+
+    Its functions' parameters are strings, but two of confirmField's are optional.
+    """
     declaration = f"function {CONFIRM_FIELD}"
     assert declaration in program
 

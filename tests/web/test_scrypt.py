@@ -49,7 +49,7 @@ def of_hashlib(log_n: int, r: int, p: int) -> str:
         n=1 << log_n,
         r=r,
         p=p,
-        maxmem=(1 << 31) - 2,  # nearly the most that hashlib accepts
+        maxmem=(1 << 31) - 2,  # one byte less than the most that hashlib accepts
         dklen=32,
     )
     groups = [digest[begin : begin + 3] for begin in range(0, len(digest), 3)]
@@ -87,7 +87,8 @@ CALLS = ["verify", "login", "loginAsync"]
     ("log_n", "r", "p", "calls"),
     [
         pytest.param(14, 32, 1, CALLS, id="64 MiB, the program's default"),
-        # With the hash itself, one call in this thread and one in a worker: each takes seconds.
+        # Each hash of 1 GiB takes seconds, so only one call is tried: `checked` makes the hash in
+        # this thread, and loginAsync checks it in a worker.
         pytest.param(18, 32, 1, ["loginAsync"], id="1 GiB", marks=pytest.mark.slow),
         pytest.param(10, 8, 3, CALLS, id="three parts"),
         pytest.param(2, 1, 1, CALLS, id="four rows of 128 bytes"),
@@ -284,7 +285,7 @@ def test_instance_that_traps_is_wiped_and_replaced(report_of: Callable[..., Repo
 
 
 def test_login_in_the_callers_thread_keeps_no_memory(report_of: Callable[..., Report]) -> None:
-    """Each has an instance of its own, which is garbage then. The first instance never grows."""
+    """Each login has an instance of its own, which is then garbage. The first one never grows."""
     rows = logins_at_once(5)
     report = report_of("inThisThread", rows)
     assert report["matches"] == matches(rows), report

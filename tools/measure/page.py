@@ -452,7 +452,7 @@ SECTIONS: dict[str, Callable[[Evidence], str]] = {
 
 
 def page_of(commit: Commit) -> str:
-    """Returns the page of a commit."""
+    """Returns docs/EVIDENCE.md as the results that count for a commit make it."""
     pairs = tuple((part, commit.result_of(part)) for part in commit.parts)
     evidence = Evidence(pairs, commit.toolchain)
     text = f"{HEAD}\n{all_parts(evidence)}{machines(evidence)}"

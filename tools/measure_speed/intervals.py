@@ -25,11 +25,11 @@ class Interval:
     upper: float
 
     def contains(self, number: float) -> bool:
-        """Whether a number lies within the bounds."""
+        """Returns whether a number lies within the bounds."""
         return self.lower <= number <= self.upper
 
     def overlaps(self, other: Interval) -> bool:
-        """Whether the two intervals have a number in common."""
+        """Returns whether the two intervals have a number in common."""
         return self.lower <= other.upper and other.lower <= self.upper
 
 

@@ -106,7 +106,7 @@ def distinct(names: Iterable[str]) -> list[str]:
 
 
 def instructions(results: Results) -> str:
-    """The instructions of a round."""
+    """Returns the table with the instructions of a round of each program."""
     rows = results.rows(Part.INSTRUCTIONS, Count)
     counts = {(row.unit, row.program): f"{row.instructions:,.0f}" for row in rows}
     table = [
@@ -117,7 +117,7 @@ def instructions(results: Results) -> str:
 
 
 def table_of_ratios(rows: Sequence[Comparison], head: str, columns: Sequence[str]) -> str:
-    """A table of ratios, with a column for each thing that is compared."""
+    """Returns a table of ratios, with a column for each thing that is compared."""
     cells = {(row.row, row.name): format_ratio(row.ratio) for row in rows}
     table = [
         [name, *(cells.get((name, column), "") for column in columns)]
@@ -127,35 +127,35 @@ def table_of_ratios(rows: Sequence[Comparison], head: str, columns: Sequence[str
 
 
 def ratios(results: Results) -> str:
-    """The time of other programs."""
+    """Returns the table with the times of other programs, relative to mkpasswd's."""
     rows = results.rows(Part.RATIOS, Comparison)
     return table_of_ratios(rows, "Time of a hash, mkpasswd's = 1", OTHER_PROGRAMS)
 
 
 def builds(results: Results) -> str:
-    """The time of other builds."""
+    """Returns the table with the times of other builds, relative to mkpasswd's."""
     rows = results.rows(Part.BUILDS, Comparison)
     return table_of_ratios(rows, "Time of a hash, mkpasswd's = 1", BUILDS)
 
 
 def starts(results: Results) -> str:
-    """The time of commands that make one hash."""
+    """Returns the table with the times of commands that make one hash, relative to mkpasswd's."""
     rows = results.rows(Part.STARTS, Comparison)
     columns = distinct(row.name for row in rows)
     return table_of_ratios(rows, "Processor time of a command, mkpasswd's = 1", columns)
 
 
 def cores(results: Results) -> str:
-    """How much faster pwhash is on several cores."""
+    """Returns the table that compares pwhash on several cores with pwhash on one."""
     rows = results.rows(Part.CORES, Comparison)
     columns = distinct(row.name for row in rows)
     return table_of_ratios(rows, "`pwhash file`, on one core = 1", columns)
 
 
 def format_work(rows: Sequence[Login]) -> str:
-    """The work of a login with a wrong password, and the greatest deviation with another field.
+    """Returns the work of a login with a wrong password, and how far other failed logins deviate.
 
-    Nothing where a client wasn't measured.
+    Returns "" for a client that wasn't measured.
     """
     if not rows:
         return ""
@@ -166,7 +166,7 @@ def format_work(rows: Sequence[Login]) -> str:
 
 
 def logins(results: Results) -> str:
-    """The work of a login."""
+    """Returns the table with the work of a login, by method and client."""
     rows = results.rows(Part.LOGINS, Login)
     table = []
     for method in distinct(row.method for row in rows):
@@ -179,7 +179,7 @@ def logins(results: Results) -> str:
 
 
 def memory(results: Results) -> str:
-    """The most memory that commands use."""
+    """Returns the table with the most memory that each command uses."""
     table = []
     for row in results.rows(Part.MEMORY, Memory):
         share = f"{row.kibibytes / row.table:.3f}" if row.table else ""
@@ -188,7 +188,7 @@ def memory(results: Results) -> str:
 
 
 def times(results: Results) -> str:
-    """The times of hashes and of an audit."""
+    """Returns the table with the times of hashes and of an audit."""
     table = []
     for row in results.rows(Part.SECONDS, Seconds):
         if row.row.startswith(seconds.SLOWEST):
@@ -205,7 +205,7 @@ def times(results: Results) -> str:
 
 
 def machine(conditions: Conditions) -> str:
-    """The machine of a part."""
+    """Returns the description of the machine that a part was measured on."""
     processor = re.sub(r"\(R\)| Processor| CPU| @.*", "", conditions.processor)
     kernel = ".".join(conditions.kernel.split(".")[:2])
     return f"{conditions.cores} cores of a {conditions.ghz:g} GHz {processor}, Linux {kernel}"
@@ -217,7 +217,7 @@ def upstream_version(version: str) -> str:
 
 
 def where(results: Results) -> str:
-    """When, where and on which code parts were measured: a line for all that share these."""
+    """Returns when, where and on which code parts were measured, with a line for all that agree."""
     groups = defaultdict(list)
     for part in (part for part in Part if part in results.parts):
         in_common = replace(results.parts[part].conditions, versions={})
@@ -226,7 +226,7 @@ def where(results: Results) -> str:
 
 
 def line_of(parts: Sequence[Part], results: Results) -> str:
-    """The line of parts that were measured on the same day and machine, with the same code."""
+    """Returns the line of parts that were measured on one day and machine, with the same code."""
     conditions = results.parts[parts[0]].conditions
     versions: dict[str, str] = {}
     for part in parts:
@@ -244,7 +244,7 @@ def line_of(parts: Sequence[Part], results: Results) -> str:
 
 
 def machine_of_times(results: Results) -> str:
-    """The machine on which these times were measured."""
+    """Returns a sentence with the runs and the machine of the times."""
     runs = max(row.runs for row in results.rows(Part.SECONDS, Seconds))
     conditions = results.parts[Part.SECONDS].conditions
     return f"The fastest of {runs} runs each, on {machine(conditions)}.\n"

@@ -140,11 +140,11 @@ class Programs:
         return Checker("x86-64-v3", (self.client("check-v3"), "libmkpasswd"))
 
     def build(self, name: str, path: str) -> Program:
-        """Another build of our program."""
+        """Returns the checker of another build of our program."""
         return Checker(name, (path, "--check"))
 
     def client(self, name: str) -> str:
-        """The path of a client in C."""
+        """Returns the path of a client in C."""
         return str(self.folder / name)
 
     def compile(self, name: str, *libraries: str) -> None:

@@ -58,7 +58,7 @@ def processor_ticks() -> tuple[int, int]:
 
 
 def is_machine_idle() -> bool:
-    """Whether the processors are idle while this process waits one second."""
+    """Returns whether the processors are idle while this process waits one second."""
     idle_before, total_before = processor_ticks()
     time.sleep(1)
     idle_after, total_after = processor_ticks()

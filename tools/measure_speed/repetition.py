@@ -30,12 +30,15 @@ def rows_in_both(first: Results, second: Results, part: Part) -> Iterator[tuple[
 
 
 def are_close(first: float, second: float) -> bool:
-    """Whether two counts are equal within the tolerance."""
+    """Returns whether two counts are equal within the tolerance."""
     return abs(second - first) <= COUNT_TOLERANCE * first
 
 
 def agree(first: Row, second: Row) -> bool:
-    """Whether counts are close, or bounds of ratios overlap. Seconds and memory may differ."""
+    """Returns whether counts are close, or bounds of ratios overlap.
+
+    Seconds and memory may differ.
+    """
     if isinstance(first, Count) and isinstance(second, Count):
         return are_close(first.instructions, second.instructions)
     if isinstance(first, Login) and isinstance(second, Login):

@@ -168,7 +168,7 @@ def format_results(results: Results) -> str:
 
 
 def read_row(row_type: type[Row], values: dict[str, Any]) -> Row:
-    """Reads a row."""
+    """Returns a row of this type from its JSON values."""
     if "ratio" in values:
         ratio = values["ratio"]
         values["ratio"] = Ratio(ratio["median"], Interval(**ratio["interval"]), ratio["pairs"])
@@ -176,7 +176,7 @@ def read_row(row_type: type[Row], values: dict[str, Any]) -> Row:
 
 
 def read_part(part: Part, value: dict[str, Any]) -> Measured:
-    """Reads a part."""
+    """Returns a part's conditions and rows from its JSON value."""
     rows = tuple(read_row(ROW_TYPES[part], row) for row in value["rows"])
     return Measured(Conditions(**value["conditions"]), rows)
 

@@ -41,7 +41,7 @@ class Slot:
 
 
 def specification() -> str:
-    """Returns the page."""
+    """Returns the page of the specification: the frame with its placeholders filled."""
     parts = list(parts_of(read(FRAME)))
     slots = [part for part in parts if isinstance(part, Slot)]
     found = reached(call for slot in slots for call in calls_of(slot))

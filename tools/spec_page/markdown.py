@@ -41,7 +41,7 @@ def prose(comment: str) -> str:
 
 
 def page_of(pieces: Sequence[Piece]) -> str:
-    """Returns the page."""
+    """Returns the page of these pieces, with links between its entries."""
     anchors = anchors_in(pieces)
     texts = (text_of(piece, anchors) for piece in pieces)
     page = "\n\n".join(text.strip("\n") for text in texts)

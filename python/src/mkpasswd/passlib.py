@@ -67,7 +67,7 @@ class _Crypt(GenericHandler, metaclass=ABCMeta):
 
     @classmethod
     def policy(cls) -> Policy:
-        """The handler's method, rounds and budget."""
+        """Return a policy with the handler's method, rounds and budget."""
         rounds = getattr(cls, "default_rounds", None)
         return Policy(cls.name.replace("_", ""), rounds, cls.budget)
 
@@ -133,7 +133,10 @@ class _Rounds(_Crypt, metaclass=ABCMeta):
 
     @classmethod
     def _least_rounds(cls, secret: Any) -> int:
-        """Returns the rounds of a new hash: for this password, if it is known."""
+        """Returns the rounds of a new hash: fewer than the default for a long password.
+
+        A password that isn't known counts as a short one.
+        """
         if secret is not None:
             with suppress(ValueError):
                 return cls._rounds_within_limit(secret, cls.default_rounds)

@@ -64,7 +64,7 @@ class Accounts:
                 yield tries
 
     def changed_names(self) -> Set[bytes]:
-        """Reads FIELDS again, and returns the names whose field isn't there as it was."""
+        """Reads FIELDS again, and returns the names whose field has changed or is gone."""
         if not self._can_be_read_again:
             return set()
         now: Dict[bytes, bytes] = {}

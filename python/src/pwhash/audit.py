@@ -62,7 +62,7 @@ def make_report(options: AuditOptions, console: Console) -> Report:
 
 
 def is_comment_or_blank(data: bytes) -> bool:
-    """Whether a line is a comment of a service's password file, or blank."""
+    """Returns whether a line is a comment of a service's password file, or blank."""
     return data.startswith(b"#") or not data.strip()
 
 
@@ -90,7 +90,7 @@ def judge(line: Line, policy: mkpasswd.Policy, judges_locked: bool) -> Judgement
 
 
 def has_number_first(fields: bytes) -> bool:
-    """Whether the first of these fields is a number or empty, as in shadow and passwd."""
+    """Returns whether the first of these fields is a number or empty, as in shadow and passwd."""
     return NUMBER_FIELD.fullmatch(fields.partition(b":")[0]) is not None
 
 

@@ -16,7 +16,7 @@ from pwhash.console import STDOUT
 from pwhash.options import CalibrateOptions
 from pwhash.session import Session
 
-# Rounds with at most two significant digits, so that two runs print nearly the same.
+# Rounds with at most two significant digits, so that small differences of measurement don't show.
 PLAIN_ROUNDS = (
     *range(1, 100),
     *(digits * 10**zeros for zeros in range(1, 9) for digits in range(10, 100)),

@@ -42,9 +42,10 @@ PASSWORD_REFUSALS = (LINE_TOO_LONG, PASSWORD_TOO_LONG, PASSWORD_ZERO_BYTE)
 
 
 def run(options: CheckOptions, session: Session) -> bool:
-    """Checks lines name:field:password, where the field is what is stored: a hash, ! or nothing.
+    """Checks lines name:field:password, or with --shadow the passwords of a list.
 
-    Returns whether a password is wrong, or a line has a problem.
+    The field is what is stored: a hash, ! or nothing. Returns whether a password is wrong, or a
+    line has a problem.
     """
     source = Source(options.input, session.console)
     checking = Checking(options, source, session)
@@ -89,7 +90,7 @@ class Checking:
         self._has_bad_line = False
 
     def has_problem(self) -> bool:
-        """Whether a password was wrong, or a line had a problem."""
+        """Returns whether a password was wrong, or a line had a problem."""
         accounts = self._accounts
         if self._has_bad_line or accounts is None:
             return self._has_bad_line
@@ -230,7 +231,7 @@ class Checking:
             return library.verify(fields.password, fields.stored, budget)
 
     def _has_budget_for_both(self, fields: FieldsToCheck) -> bool:
-        """Whether the check and the new hash together cost at most the budget."""
+        """Returns whether the check and the new hash together cost at most the budget."""
         policy, length = self._options.policy, len(fields.password)
         cost = library.cost(fields.stored, length) + library.new_cost(policy, length)
         return cost <= policy.budget

@@ -127,7 +127,7 @@ class Console:
 
 
 def is_taken_at_once(fd: int) -> bool:
-    """Whether a few bytes can be written soon."""
+    """Returns whether a few bytes can be written soon."""
     poll = select.poll()
     poll.register(fd, select.POLLOUT)
     return bool(poll.poll(LAST_MILLISECONDS))

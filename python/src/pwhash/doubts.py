@@ -151,12 +151,12 @@ def find_signs_of_wrong_columns(name: bytes, has_service: bool) -> Iterator[str]
 
 
 def is_quoted(field: bytes) -> bool:
-    """Whether a field begins and ends with a quote."""
+    """Returns whether a field begins and ends with a quote."""
     field = field[:-1] if field.endswith(b"\r") else field
     return len(field) > 1 and field.startswith(b'"') and field.endswith(b'"')
 
 
 def is_in_odd_quotes(name: bytes) -> bool:
-    """Whether a name begins and ends with quotes that no CSV has: single or typographic ones."""
+    """Returns whether a name is between quotes that no CSV has: single or typographic ones."""
     text = name.decode(errors="replace").strip()
     return len(text) > 1 and text[0] in ODD_QUOTES and text[-1] in ODD_QUOTES

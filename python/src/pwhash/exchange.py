@@ -115,7 +115,7 @@ def swap(place: Place) -> None:
 
 
 def is_untouched(now: os.stat_result, before: os.stat_result) -> bool:
-    """Whether a file is the same one, unchanged in every way, attributes included.
+    """Returns whether a file is the same one, unchanged in every way, attributes included.
 
     This works only before an exchange, which sets the time of the last change (ctime).
     """
@@ -123,7 +123,7 @@ def is_untouched(now: os.stat_result, before: os.stat_result) -> bool:
 
 
 def is_unchanged(now: os.stat_result, before: os.stat_result) -> bool:
-    """Whether nobody has written to a file, or changed its owner or mode."""
+    """Returns whether nobody has written to a file, or changed its owner or mode."""
     return version(now) == version(before)
 
 

@@ -43,17 +43,17 @@ NOTHING = frozenset(["NULL", "\\N", "(null)"])
 
 
 def is_digest(password: bytes) -> bool:
-    """Whether this looks like a bare digest, such as MD5's in a database."""
+    """Returns whether this looks like a bare digest, such as MD5's in a database."""
     return DIGEST.fullmatch(password) is not None
 
 
 def is_stored(password: bytes) -> bool:
-    """Whether this is a stored hash, or the fields of a password file."""
+    """Returns whether this is a stored hash, or the fields of a password file."""
     return STORED.fullmatch(password) is not None
 
 
 def is_damaged(field: bytes, is_of_table: bool) -> bool:
-    """Whether a program has exported this in place of a value, or has changed the value."""
+    """Returns whether a program has exported this in place of a value, or has changed the value."""
     text = field.decode(errors="replace")
     if text in NOTHING or ERROR_WITHOUT_MARK.fullmatch(text):
         return True
@@ -64,7 +64,10 @@ def is_damaged(field: bytes, is_of_table: bool) -> bool:
 
 
 def is_misread(text: str) -> bool:
-    """Whether a program has read UTF-8 as Windows-1252, as Excel does without a byte order mark."""
+    """Returns whether a program has read UTF-8 as Windows-1252.
+
+    Excel does so without a byte order mark.
+    """
     try:
         return text.encode("cp1252").decode() != text
     except UnicodeError:

@@ -131,13 +131,13 @@ class Field(NamedTuple):
         return Field(b"", self.prefix, b"", self.stored)
 
     def has_hash(self) -> bool:
-        """Whether a whole hash is stored, with or without a mark."""
+        """Returns whether a whole hash is stored, with or without a mark."""
         if self.is_of_other_scheme:
             return bool(self.stored)
         return self.is_for_crypt and mkpasswd.describe(self.stored).state in HASHES
 
     def can_be_locked(self) -> bool:
-        """Whether a mark would lock the field, and not just become part of a plain password."""
+        """Returns whether a mark would lock the field, not just become part of a plain password."""
         if self.is_of_other_scheme or not self.data():
             return True
         return self.is_for_crypt and mkpasswd.describe(self.stored).state in (*HASHES, *DAMAGED)
@@ -147,7 +147,7 @@ NONE = Field(b"", b"", b"", b"")
 
 
 def is_digest(prefix: bytes, stored: bytes) -> bool:
-    """Whether what is stored has the length of the digest that a prefix such as {SSHA} names."""
+    """Returns whether a value is as long as the digest that its prefix, such as {SSHA}, names."""
     named, found = OF_DIGESTS.fullmatch(prefix), BASE64.fullmatch(stored)
     if named is None or found is None:
         return False
@@ -163,7 +163,7 @@ def field_of(data: bytes) -> Field:
 
 
 def is_encoded(stored: bytes) -> bool:
-    """Whether this is the Base64 of a field with a prefix such as {SSHA}, or begins like that.
+    """Returns whether this is the Base64 of a field with a prefix such as {SSHA}, or its beginning.
 
     LDIF writes values in Base64, and continues long ones on the next line.
     """
@@ -199,5 +199,5 @@ def method_of_prefix(prefix: bytes) -> Optional[str]:
 
 
 def fits(prefix: bytes, method: str) -> bool:
-    """Whether a hash of the method may follow a prefix."""
+    """Returns whether a hash of the method may follow a prefix."""
     return prefix.upper() in (b"", ANY_METHOD, PREFIXES.get(method))

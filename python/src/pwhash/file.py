@@ -27,9 +27,9 @@ from pwhash.workers import Memory, Workers
 
 
 def run(options: FileOptions, session: Session) -> bool:
-    """Hashes the lines of a pipe, or those of a file after looking for problems in it.
+    """Looks for problems in a file and then hashes its lines, or with --look only looks.
 
-    Returns whether a line was refused or left out.
+    Hashes a pipe's lines as they come. Returns whether a line was refused or left out.
     """
     is_read_twice = options.out is not None or options.only_look
     source = Source(options.input, session.console, is_read_twice)
@@ -133,7 +133,7 @@ class Hashing:
             self._locked.refuse_new(self._part.name if self._part else None)
 
     def _refuse_doubtful(self, line: Line) -> Line:
-        """Returns the line, as a refused one if it is doubtful."""
+        """Returns the line, marked as refused if it is doubtful."""
         if self._refusal(line) is not None or line.refused_row is not None:
             self._doubts.note_refused(line)
             return line

@@ -184,7 +184,7 @@ def refuse_untrusted_folder(folder: int, rule: Rule, is_own: bool) -> None:
 
 
 def is_of_one_user(folder: int, status: os.stat_result) -> bool:
-    """Whether the group that can write a folder has no member but the owner, and others can't.
+    """Returns whether only the owner can write a folder, as its group has no other member.
 
     useradd(8) makes a group for each user, whose only member is that user.
     """
@@ -200,7 +200,7 @@ def is_of_one_user(folder: int, status: os.stat_result) -> bool:
 
 
 def has_acl(folder: int) -> bool:
-    """Whether a folder has an ACL, by which others can have the rights of its group.
+    """Returns whether a folder has an ACL, by which others can have the rights of its group.
 
     Also true if the system doesn't say.
     """

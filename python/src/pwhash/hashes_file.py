@@ -42,7 +42,7 @@ class Hash(NamedTuple):
     rest: bytes  # with the colon that begins it
 
     def data(self) -> bytes:
-        """Returns the line."""
+        """Returns the line as HASHES has it, without its line feed."""
         return self.name + b":" + self.field.data() + self.rest
 
 

@@ -34,29 +34,35 @@ def fold(field: bytes) -> str:
 
 
 def is_of_passwords(heading: str) -> bool:
-    """Whether a heading, in front of one of names, is that of passwords."""
+    """Returns whether a folded heading is one of passwords, even a short one such as pw."""
     return heading in PASSWORDS or heading in SHORT_PASSWORDS
 
 
 def is_known(field: bytes) -> bool:
-    """Whether a field is a heading of names or passwords."""
+    """Returns whether a field is a heading of names or passwords."""
     return fold(field) in NAMES or is_of_passwords(fold(field))
 
 
 def is_heading_of_names(field: bytes) -> bool:
-    """Whether a name is the heading of a column of names or of passwords."""
+    """Returns whether a name is the heading of a column of names or of passwords."""
     return fold(field) in NAMES or fold(field) in PASSWORDS
 
 
 def is_heading_of_passwords(name: bytes, password: bytes) -> bool:
-    """Whether a password is a heading. With a login name, `password` may be a real password."""
+    """Returns whether a password is a heading.
+
+    After a login name, `password` may be a real password.
+    """
     if password == b"password" and LOGIN_NAME.fullmatch(name):
         return False
     return fold(password) in PASSWORDS
 
 
 def ends_in_heading(password: bytes) -> bool:
-    """Whether a password ends as in pw1name:password: a list was joined without a line feed."""
+    """Returns whether a password ends in the heading of another list, as in pw1name:password.
+
+    This happens when lists are joined without a line feed between them.
+    """
     if b":" not in password:
         return False
     before, _, last = fold(password).rpartition(":")

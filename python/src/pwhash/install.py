@@ -143,7 +143,7 @@ class Content:
 
 
 def stays_locked(line: Hash, target: Target) -> bool:
-    """Whether TARGET keeps a name out that HASHES would let in."""
+    """Returns whether TARGET keeps a name out that HASHES would let in."""
     return target.locks(line.name) and not line.field.is_locked
 
 

@@ -126,7 +126,7 @@ def refused_password(password: bytes) -> Optional[Refusal]:
 
 
 def is_over_budget(policy: Policy, length: int) -> bool:
-    """Whether a new hash of a password of this length costs more than the budget."""
+    """Returns whether a new hash of a password of this length costs more than the budget."""
     return policy.longest is None or length > policy.longest
 
 
@@ -215,7 +215,7 @@ def without_budget() -> mkpasswd.Policy:
 
 
 def needs_rehash(policy: Policy, field: bytes) -> bool:
-    """Whether a new hash by the policy would replace a stored one."""
+    """Returns whether a new hash by the policy would replace a stored one."""
     report = _library.needs_rehash(field, policy.numbers).report
     return report.error == 0 and report.outdated == 1
 

@@ -105,7 +105,7 @@ def open_own_folder(target: FileInFolder) -> int:
 
 
 def is_own_folder(status: os.stat_result) -> bool:
-    """Whether this is a folder of this user that nobody else can read."""
+    """Returns whether this is a folder of this user that nobody else can read."""
     if not stat.S_ISDIR(status.st_mode) or status.st_uid != os.geteuid():
         return False
     # A new folder inherits the set-group-ID bit of the folder that it is in.

@@ -69,6 +69,6 @@ class Locked(Skipping):
         return names
 
     def _is_locked(self, stored: Stored) -> bool:
-        """Whether a field keeps its name out, and isn't that of a new account."""
+        """Returns whether a field keeps its name out, and isn't that of a new account."""
         is_new = stored.field in NO_PASSWORD_YET and stored.name not in self._superusers
         return field_of(stored.field).is_surely_locked and not is_new

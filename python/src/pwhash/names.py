@@ -96,6 +96,6 @@ class FirstFields:
         self._names_and_fields = FirstNumbers()
 
     def is_another(self, name: bytes, field: bytes, number: int) -> bool:
-        """Whether the first line of this name has another field."""
+        """Returns whether the first line of this name has another field."""
         first_with_field = self._names_and_fields.first(name + b":" + field, number)
         return first_with_field != self._names.first(name, number)

@@ -40,6 +40,6 @@ def create(file: FileInFolder) -> int:
 
 
 def has_name(fd: int, file: FileInFolder) -> bool:
-    """Whether an open file has this name."""
+    """Returns whether an open file has this name."""
     named_now = file.status()
     return named_now is not None and os.path.samestat(os.fstat(fd), named_now)

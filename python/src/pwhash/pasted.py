@@ -142,7 +142,7 @@ def without_introduction(line: bytes) -> bytes:
 
 
 def is_introduction(line: bytes) -> bool:
-    """Whether a line has no hash, but introduces a quoted e-mail, as "On Tue, Bob wrote:" does.
+    """Returns whether a line has no hash and introduces a quoted e-mail, as "Tue, Bob wrote:" does.
 
     A time in it has colons too. In a line of a password file, a name or a field has no blanks.
     """
@@ -167,7 +167,7 @@ def field_of_pasted(pasted: bytes) -> bytes:
 
 
 def is_plain_before(text: bytes) -> bool:
-    """Whether it is plain that a hash begins after this text, with or without a quote."""
+    """Returns whether it is plain that a hash begins after this text, with or without a quote."""
     without_quote = text[:-1] if text[-1:] in (b"'", b'"', b"`") else text
     return not without_quote or BEFORE_HASH.fullmatch(without_quote) is not None
 
@@ -198,7 +198,7 @@ def without_blanks(text: bytes) -> bytes:
 
 
 def has_hash(pasted: bytes) -> bool:
-    """Whether a hash of a known scheme begins in a pasted line, perhaps a locked or cut one."""
+    """Returns whether a hash of a known scheme, perhaps locked or cut, begins in a pasted line."""
     line = cleaned(pasted)
     found = BEGINNING.search(line)
     if found is None:
@@ -207,16 +207,16 @@ def has_hash(pasted: bytes) -> bool:
 
 
 def begins_like_hash(field: bytes) -> bool:
-    """Whether a field begins like a hash of a known scheme, such as $6$."""
+    """Returns whether a field begins like a hash of a known scheme, such as $6$."""
     return field.startswith(b"$") and library.describe(field).scheme is not None
 
 
 def is_whole(field: bytes) -> bool:
-    """Whether a field has a whole hash of a method that pwhash knows."""
+    """Returns whether a field has a whole hash of a method that pwhash knows."""
     return library.describe(without_prefix(field)).state in (State.CURRENT, State.OUTDATED)
 
 
 def is_cut(pasted: bytes) -> bool:
-    """Whether only the beginning of a hash was pasted, so that the rest may follow."""
+    """Returns whether only the beginning of a hash was pasted, so that the rest may follow."""
     field = without_prefix(field_of_pasted(pasted))
     return CUT_EARLY.fullmatch(field) is not None or library.describe(field).state is State.DEAD

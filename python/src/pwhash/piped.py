@@ -31,7 +31,7 @@ class PipedLines:
         self._too_long = UsageError("")
 
     def limit(self, count: int, too_long: UsageError) -> None:
-        """From here on, lines with more bytes than this in all end the run with this error."""
+        """Ends the run with this error if the lines from here on have more bytes in all."""
         self._bytes_left, self._too_long = count, too_long
 
     def password(self) -> bytes:
@@ -47,11 +47,14 @@ class PipedLines:
         return self._next_until(math.inf)
 
     def next_within(self, seconds: float) -> Optional[bytes]:
-        """Waits so long for the next line, and returns it, or None."""
+        """Waits at most this long for the next line, and returns it, or None."""
         return self._next_until(time.monotonic() + seconds)
 
     def next_at_once(self) -> Optional[bytes]:
-        """Returns the next line if it is there already, or None. The limit doesn't matter."""
+        """Returns the next line if it is there already, or None.
+
+        Ignores the limit, since it reads at most one piece.
+        """
         line = self._take_line()
         if line is None and not self._is_end:
             self._read()

@@ -47,7 +47,7 @@ class Place(FileInFolder):
         return FileInFolder(self.path, self.folder, name).status()
 
     def is_elsewhere(self) -> bool:
-        """Whether the path leads to another folder by now, such as by a link that was switched."""
+        """Returns whether the path leads to another folder by now, as after a link was switched."""
         path = os.path.dirname(self.path) or "."
         try:
             return not os.path.samestat(os.stat(path), os.fstat(self.folder))

@@ -105,7 +105,7 @@ def without_ignored(signals: Iterable[int]) -> Set[int]:
 
 
 def is_in_background(fd: int) -> bool:
-    """Whether the terminal belongs to another process group."""
+    """Returns whether the terminal belongs to another process group."""
     try:
         return os.tcgetpgrp(fd) != os.getpgrp()
     except OSError:  # it isn't this session's terminal, so it stops no process

@@ -29,7 +29,7 @@ class Report(abc.ABC):
 
     @abc.abstractmethod
     def end(self, counts: Counter[Finding], source_name: str) -> None:
-        """Prints the rest."""
+        """Prints what the report says after all judgements, if anything."""
 
     def print(self, lines: Sequence[str]) -> None:
         """Prints lines on standard output."""

@@ -105,7 +105,7 @@ def parts_of(found: Match[bytes], policy: Policy) -> Parts:
 
 
 def is_same_hash(found: Match[bytes], line: Line, policy: Policy) -> bool:
-    """Whether hashing the line again, with the salt of the old hash, gives the same hash."""
+    """Returns whether hashing the line again, with the old hash's salt, gives the same hash."""
     try:
         setting = policy.setting or library.setting(policy.method, policy.rounds, found[2])
     except library.RefusedSalt:

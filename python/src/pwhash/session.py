@@ -86,7 +86,7 @@ class Session:
 
 
 def has_part(options: Optional[Options]) -> bool:
-    """Whether there is an OUT.part for these options, of this run or an earlier one."""
+    """Returns whether there is an OUT.part for these options, of this run or an earlier one."""
     if not isinstance(options, (FileOptions, CheckOptions)) or options.out is None:
         return False
     return os.path.lexists(part_of(options.out))

@@ -164,7 +164,7 @@ class Line:
         return old._replace(stored=self.new_hash)
 
     def _fits(self, prefix: bytes) -> bool:
-        """Whether the new hash may follow a prefix, so that the service finds it there.
+        """Returns whether the new hash may follow a prefix, so that the service finds it there.
 
         Apache and nginx know no prefix for crypt(3), and LDAP's servers only {CRYPT}.
         """

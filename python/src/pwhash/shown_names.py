@@ -29,7 +29,7 @@ BEGINS_LIKE_HASH = re.compile(rb"[!*]*(?:\$|\{[A-Za-z0-9.-]+\})")
 
 
 def may_be_shown(name: bytes) -> bool:
-    """Whether this looks like a name, and not like a hash or a row of a table.
+    """Returns whether this looks like a name, and not like a hash or a row of a table.
 
     Blanks around it don't matter.
     """
@@ -44,7 +44,7 @@ def may_be_shown(name: bytes) -> bool:
 
 
 def is_no_password(name: bytes) -> bool:
-    """Whether this looks like a name, and not like a password from a line password:name."""
+    """Returns whether this looks like a name, and not like a password from a line password:name."""
     text = name.strip().decode(errors="ignore")
     if not OF_NAMES.fullmatch(text) or CAPITAL_AND_DIGIT.match(text):
         return False
@@ -52,7 +52,7 @@ def is_no_password(name: bytes) -> bool:
 
 
 def could_be_name(field: bytes) -> bool:
-    """Whether a stored field could be a name, so that its line may be password:name."""
+    """Returns whether a stored field could be a name, so that its line may be password:name."""
     return field[:1] not in (b"", b"$", b"{", b"!", b"*")
 
 
@@ -104,7 +104,7 @@ def list_headings(row: Sequence[bytes]) -> str:
 
 
 def may_show_heading(field: bytes, is_heading_row: bool) -> bool:
-    """Whether a field of a first row is surely no password."""
+    """Returns whether a field of a first row is surely no password."""
     if is_heading_row:
         return headings.is_known(field) or is_no_password(field)
     return headings.fold(field) in headings.NAMES

@@ -36,7 +36,7 @@ class Skipping(abc.ABC):
 
     @abc.abstractmethod
     def skips(self, line: Line) -> bool:
-        """Whether a line that may have a name is left out."""
+        """Returns whether a line that may have a name is left out."""
 
     def name_to_show(self, line: Line) -> bytes:
         """Returns the name of a line for a message."""

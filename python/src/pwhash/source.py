@@ -178,5 +178,5 @@ def refuse_as_output(status: os.stat_result, name: str, console: Console) -> Non
 
 
 def is_same_file(fd: int, status: os.stat_result) -> bool:
-    """Whether a descriptor is open on this file."""
+    """Returns whether a descriptor is open on this file."""
     return os.path.samestat(os.fstat(fd), status)

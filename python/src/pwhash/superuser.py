@@ -11,7 +11,10 @@ LINE = re.compile(rb"(?m)^([^:#\n]+):[^:\n]*:0+:")
 
 
 def superuser_names() -> FrozenSet[bytes]:
-    """Returns these names. The system's file of names has them, and no directory service."""
+    """Returns root and the other names with the number 0 in /etc/passwd.
+
+    Asks no directory service for names.
+    """
     content = b""
     with contextlib.suppress(OSError), open(PASSWD, "rb") as file:
         content = file.read()

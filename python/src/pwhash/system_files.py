@@ -49,7 +49,7 @@ def refuse_shape(content: bytes, file_name: str) -> None:
 
 
 def is_called(place: Place, folder: str) -> bool:
-    """Whether the open folder has this name."""
+    """Returns whether the open folder has this name."""
     with contextlib.suppress(OSError):
         called_so = os.stat(f"../{folder}", dir_fd=place.folder)
         return os.path.samestat(called_so, os.fstat(place.folder))

@@ -100,7 +100,7 @@ class Table:
             row = self._next_row(reader)
 
     def _has_names(self) -> bool:
-        """Whether columns are chosen by name, and not by number."""
+        """Returns whether columns are chosen by name, and not by number."""
         return not self._wanted[0].isdecimal()
 
     def _first_row_with_blank_ones(self) -> List[str]:
@@ -236,7 +236,7 @@ class Table:
         return row
 
     def _line(self, number: int, row: Row, columns: Columns) -> Line:
-        """Returns a row as a line, as a refused one if something is wrong with it."""
+        """Returns a row as a line, marked as refused if the row breaks a rule."""
         name = cell(row, columns.name)
         reason = self._refused(row, columns)
         if reason is not None:
@@ -284,7 +284,7 @@ class Table:
         return None
 
     def _is_heading(self, row: Row, columns: Columns) -> bool:
-        """Whether a row is the heading again, perhaps because another table was appended.
+        """Returns whether a row is the heading again, perhaps because another table was appended.
 
         Ends the run if that table has its columns in another order.
         """
@@ -308,7 +308,7 @@ class Table:
 
 
 def is_heading_of_others(fields: Row, columns: Columns) -> bool:
-    """Whether a row is the heading of a table with names or passwords in other columns."""
+    """Returns whether a row is the heading of a table with names or passwords in other columns."""
     wanted = columns.wanted_in(fields)
     if headings.is_of_passwords(wanted[0]) and wanted[-1] in headings.NAMES:
         return True
@@ -320,7 +320,7 @@ def is_heading_of_others(fields: Row, columns: Columns) -> bool:
 
 
 def is_row_and_heading(fields: Row, own: Row) -> bool:
-    """Whether these are a row and then the whole heading, as in 1,ann,pw1room,name,password.
+    """Returns whether this is a row joined with the heading, as in 1,ann,pw1room,name,password.
 
     The last value of the row and the first heading are one field, since no line feed is between
     them. The heading of another table hardly has so many fields.
@@ -332,7 +332,7 @@ def is_row_and_heading(fields: Row, own: Row) -> bool:
 
 
 def is_joined_with_heading(fields: Row, columns: Columns) -> bool:
-    """Whether a row ends in the heading of another table, as in ann,pw1name,password.
+    """Returns whether a row ends in the heading of another table, as in ann,pw1name,password.
 
     `cat` joins tables like this if the last line of the first one has no line feed.
     """
@@ -352,7 +352,7 @@ def is_joined_with_heading(fields: Row, columns: Columns) -> bool:
 
 
 def is_heading(field: str, own: Row) -> bool:
-    """Whether a field is a heading of this table, or one that many tables have."""
+    """Returns whether a field is a heading of this table, or one that many tables have."""
     return field in headings.NAMES or field in headings.PASSWORDS or (field in own and field != "")
 
 
@@ -407,7 +407,7 @@ def wanted_columns(names: Optional[str]) -> Row:
 
 
 def has_duplicates(columns: Row) -> bool:
-    """Whether a column is named twice."""
+    """Returns whether a column is named twice."""
     return len(set(columns)) != len(columns)
 
 

@@ -41,7 +41,7 @@ class Target:
         self._refuse_other_file()
 
     def locks(self, name: bytes) -> bool:
-        """Whether a name is surely kept out."""
+        """Returns whether a name is surely kept out."""
         old = self.lines.get(name)
         return name in self._commented_out or (old is not None and old.field.is_surely_locked)
 
@@ -130,7 +130,7 @@ def read_commented_names(lines: Iterable[bytes]) -> Set[bytes]:
 
 
 def is_of_password_file(found: Field) -> bool:
-    """Whether a field has a hash, whole or damaged, a prefix of one, or a mark."""
+    """Returns whether a field has a hash, whole or damaged, a prefix of one, or a mark."""
     if found.is_locked or found.prefix:
         return True
     return mkpasswd.describe(found.stored).state in (*HASHES, *DAMAGED)

@@ -18,7 +18,7 @@ NEEDS_NUMBER = re.compile(rb"[^\x20-\x7e]|['\\]")
 
 
 def is_utf8(data: bytes) -> bool:
-    """Whether bytes are UTF-8."""
+    """Returns whether bytes are UTF-8."""
     try:
         data.decode()
     except UnicodeDecodeError:
@@ -34,7 +34,7 @@ def encoding_hint(name: bytes) -> str:
 
 
 def is_visible(text: str) -> bool:
-    """Whether each character shows something, or is a blank."""
+    """Returns whether each character shows something, or is a blank."""
     return text.isprintable() and not SHOWS_NOTHING.search(text)
 
 

@@ -51,7 +51,7 @@ class Job(Generic[Result]):
         self._done.set()
 
     def is_done(self) -> bool:
-        """Whether the call has ended."""
+        """Returns whether the call has ended."""
         return self._done.is_set()
 
     def result(self) -> Result:

@@ -144,7 +144,7 @@ def long_salt(source: Source) -> bytes:
 
 
 def repeated_to_the_limit(source: Source) -> bytes:
-    """Returns a field as long as the longest setting, or nearly."""
+    """Returns a field of 382 to 387 bytes. The longest setting has 384."""
     return (source.one_of(*REPEATED_STARTS) + b"ab" * 192)[: source.between(382, 387)]
 
 
@@ -155,7 +155,7 @@ def scrypt_at_the_ceiling(source: Source) -> bytes:
 
 
 def scrypt_with_a_long_salt(source: Source) -> bytes:
-    """Returns a scrypt setting with the longest salt, or nearly."""
+    """Returns a scrypt setting with a salt of 85 to 88 characters."""
     salt = fields.salt(source, source.between(85, 88))
     return source.one_of(*SCRYPT_STARTS) + salt + source.one_of(b"", b"$", b"$x", b"_")
 

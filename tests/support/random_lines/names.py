@@ -4,7 +4,7 @@ from __future__ import annotations
 from ..model.work import LONGEST_PASSWORD
 from .source import DECIMAL, LOWER, Source
 
-# Lengths at the end of a digest's block, or at a limit.
+# Lengths around powers of two, and around 56 and 112, from which padding adds a block to a digest.
 EDGE_LENGTHS = [
     *(0, 1, 2, 3, 7, 8, 9, 15, 16, 17, 31, 32, 33, 55, 56, 63, 64, 65, 111, 112),
     *(127, 128, 129, 255, 256, 511, 512, 513, 1022, 1023, 1024, 1025, 1026),
