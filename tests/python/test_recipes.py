@@ -29,6 +29,7 @@ from support.package import (
     package_under_test,
     whole_login,
     whole_login_of_a_moving_service,
+    with_few_rounds,
 )
 from support.passwords import TOO_COSTLY, TOO_LONG
 from support.process import run
@@ -95,17 +96,6 @@ def fixture_names(cook: Cook) -> dict[str, Any]:
 @pytest.fixture(name="login")
 def fixture_login(names: dict[str, Any]) -> Any:
     return from_an_address(names)
-
-
-@pytest.fixture(name="few_rounds")
-def fixture_few_rounds(monkeypatch: pytest.MonkeyPatch) -> None:
-    """Gives new hashes the fewest rounds, for tests of what isn't the policy's."""
-    policy = mkpasswd.Policy(rounds=1000)
-    for name in ("login", "needs_rehash", "hash"):
-        monkeypatch.setattr(mkpasswd, name, getattr(policy, name))
-
-
-with_few_rounds = pytest.mark.usefixtures("few_rounds")
 
 
 def from_an_address(names: dict[str, Any]) -> Any:
