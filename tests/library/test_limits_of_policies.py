@@ -24,6 +24,7 @@ from support.policy_limits import (
     SHA512CRYPT,
     Policy,
     fitted_rounds,
+    is_longest,
     new_cost,
     random_policies,
 )
@@ -84,17 +85,6 @@ def rounds_of(library: ctypes.CDLL, length: int, policy: Policy) -> Answer:
     numbers = (policy.method, policy.rounds, policy.budget)
     returned = library.mkpasswd_rounds_bytes(length, *numbers, report)
     return answer_of(returned, report.raw)
-
-
-def is_longest(policy: Policy, length: int) -> bool:
-    """Returns whether this length is within the limit, and the next one isn't."""
-    if length > LONGEST_PASSWORD:
-        return False
-    if new_cost(policy.method, policy.chosen_rounds, length) > policy.limit:
-        return False
-    if length == LONGEST_PASSWORD:
-        return True
-    return new_cost(policy.method, policy.chosen_rounds, length + 1) > policy.limit
 
 
 def assert_limit(library: ctypes.CDLL, policy: Policy) -> None:

@@ -28,3 +28,16 @@ def fixture_digests(monkeypatch: pytest.MonkeyPatch) -> list[int]:
 
         monkeypatch.setattr(_library, name, counted)
     return numbers
+
+
+@pytest.fixture(name="few_rounds")
+def fixture_few_rounds(monkeypatch: pytest.MonkeyPatch) -> None:
+    """Lets the package's functions make hashes with few rounds.
+
+    That is for tests of services that are about neither the rounds nor the limit of a policy.
+    """
+    import mkpasswd
+
+    policy = mkpasswd.Policy(rounds=1000)
+    for name in ("login", "needs_rehash", "hash"):
+        monkeypatch.setattr(mkpasswd, name, getattr(policy, name))

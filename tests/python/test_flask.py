@@ -18,6 +18,7 @@ from support.package import (
     recipe,
     replace_lines,
     whole_login,
+    with_few_rounds,
 )
 from support.passwords import TOO_COSTLY, TOO_LONG
 from support.stored_strings import COSTLY, MD5, title
@@ -134,6 +135,7 @@ def test_a_registered_user_logs_in(service: Service) -> None:
     assert client.name() == "kim"
 
 
+@with_few_rounds
 @pytest.mark.parametrize("name", USERS)
 def test_a_name_that_is_taken_keeps_its_hash(service: Service, name: str) -> None:
     assert service.client().register(name, "pässword") == 403
@@ -159,6 +161,7 @@ def test_an_incomplete_registration_is_refused(service: Service, form: dict[str,
 # ---- Logins
 
 
+@with_few_rounds
 def test_the_right_password_opens_a_session(service: Service) -> None:
     client = service.client()
     assert client.log_in("ann") == 200
@@ -166,6 +169,7 @@ def test_the_right_password_opens_a_session(service: Service) -> None:
     assert service.client().name() == ""
 
 
+@with_few_rounds
 @pytest.mark.parametrize("name", ["ann", "bob", "eve", "nobody"])
 @pytest.mark.parametrize("password", ["passw0rd", "", "x\0", TOO_LONG], ids=title)
 def test_a_wrong_password_opens_no_session(service: Service, name: str, password: str) -> None:
@@ -174,6 +178,7 @@ def test_a_wrong_password_opens_no_session(service: Service, name: str, password
     assert client.name() == ""
 
 
+@with_few_rounds
 def test_a_locked_account_gets_no_session(service: Service) -> None:
     client = service.client()
     assert client.log_in("bob") == 403
@@ -187,6 +192,7 @@ def test_an_incomplete_form_is_refused(service: Service, form: dict[str, str]) -
     assert service.client().post("/login", **form) == 400
 
 
+@with_few_rounds
 @pytest.mark.parametrize("is_trusted", [False, True], ids=["no proxy", "a proxy"])
 def test_the_log_has_the_address_of_the_client(
     service: Service, cook: Cook, caplog: pytest.LogCaptureFixture, is_trusted: bool
@@ -204,6 +210,7 @@ def test_the_log_has_the_address_of_the_client(
 # ---- Sessions
 
 
+@with_few_rounds
 def test_a_renewal_ends_no_session(service: Service) -> None:
     client, another = service.client(), service.client()
     assert client.log_in("ann") == 200
@@ -212,6 +219,7 @@ def test_a_renewal_ends_no_session(service: Service) -> None:
     assert (client.name(), another.name()) == ("ann", "ann")
 
 
+@with_few_rounds
 @pytest.mark.parametrize(
     "statement",
     [
@@ -232,6 +240,7 @@ def test_a_lock_or_a_deletion_ends_the_sessions_of_one_user(
     assert client.change() == 401
 
 
+@with_few_rounds
 def test_a_reset_during_a_login_leaves_no_session(
     service: Service, monkeypatch: pytest.MonkeyPatch
 ) -> None:
@@ -271,6 +280,7 @@ def test_nobody_changes_a_password_without_a_session(service: Service) -> None:
     assert service.fields() == USERS
 
 
+@with_few_rounds
 @pytest.mark.parametrize("old", ["passw0rd", "", "x\0", TOO_LONG], ids=title)
 def test_a_wrong_old_password_changes_nothing(service: Service, old: str) -> None:
     client = service.client()
@@ -291,6 +301,7 @@ def test_a_new_password_that_cannot_be_used_changes_nothing(service: Service, ne
     assert client.name() == "ann"
 
 
+@with_few_rounds
 @pytest.mark.parametrize("form", [{}, {"old": "password"}, {"new": "pässword"}], ids=str)
 def test_an_incomplete_change_is_refused(service: Service, form: dict[str, str]) -> None:
     client = service.client()
@@ -298,6 +309,7 @@ def test_an_incomplete_change_is_refused(service: Service, form: dict[str, str])
     assert client.post("/password", **form) == 400
 
 
+@with_few_rounds
 def test_a_change_undoes_no_lock_that_comes_meanwhile(
     service: Service, monkeypatch: pytest.MonkeyPatch
 ) -> None:
@@ -327,6 +339,7 @@ def fixture_strict(service: Service) -> Service:
     return service
 
 
+@with_few_rounds
 def test_a_name_has_a_limit_and_other_names_are_free(strict: Service) -> None:
     for number in range(2):
         assert strict.client(f"203.0.113.{number}").log_in("ann", "passw0rd") == 403
@@ -334,10 +347,12 @@ def test_a_name_has_a_limit_and_other_names_are_free(strict: Service) -> None:
     assert strict.client(ELSEWHERE).log_in("zoe") == 200
 
 
+@with_few_rounds
 def test_an_unknown_name_has_the_same_limit(strict: Service) -> None:
     assert [strict.client().log_in("nobody", "x") for _ in range(3)] == [403, 403, 429]
 
 
+@with_few_rounds
 def test_strangers_do_not_lock_out_a_user_at_home(strict: Service) -> None:
     assert strict.client().log_in("ann") == 200
     for _ in range(2):
@@ -346,10 +361,12 @@ def test_strangers_do_not_lock_out_a_user_at_home(strict: Service) -> None:
     assert strict.client().log_in("ann") == 200
 
 
+@with_few_rounds
 def test_right_passwords_do_not_count(strict: Service) -> None:
     assert [strict.client().log_in("zoe") for _ in range(4)] == [200] * 4
 
 
+@with_few_rounds
 def test_a_login_of_ones_own_does_not_clear_the_count_of_a_network(strict: Service) -> None:
     for name in ("ann", "bob", "nobody"):
         assert strict.client().log_in("zoe") == 200
@@ -357,17 +374,20 @@ def test_a_login_of_ones_own_does_not_clear_the_count_of_a_network(strict: Servi
     assert strict.client().log_in("zoe") == 429
 
 
+@with_few_rounds
 def test_wrong_old_passwords_count_as_attempts(strict: Service) -> None:
     client = strict.client()
     assert client.log_in("ann") == 200
     assert [client.change(old="passw0rd") for _ in range(3)] == [403, 403, 429]
 
 
+@with_few_rounds
 def test_names_that_are_taken_count_as_attempts(strict: Service) -> None:
     assert [strict.client().register("ann") for _ in range(3)] == [403, 403, 429]
     assert strict.fields() == USERS
 
 
+@with_few_rounds
 def test_a_login_for_which_there_is_no_thread_does_not_count(
     strict: Service, monkeypatch: pytest.MonkeyPatch
 ) -> None:

@@ -24,6 +24,7 @@ from support.package import (
     recipe,
     package_under_test,
     whole_login_of_a_moving_service,
+    with_few_rounds,
 )
 from support.passwords import TOO_LONG
 
@@ -139,6 +140,7 @@ def test_all_users_log_in_and_outdated_hashes_are_renewed(service: Service) -> N
         assert fields[name] == crypt(password_of(name), fields[name])
 
 
+@with_few_rounds
 def test_a_renewed_hash_matches_only_its_password_and_is_kept(service: Service) -> None:
     for name in USERS:
         assert service.post(name, password_of(name)) == 200
@@ -151,6 +153,7 @@ def test_a_renewed_hash_matches_only_its_password_and_is_kept(service: Service) 
     assert service.fields() == fields
 
 
+@with_few_rounds
 @pytest.mark.parametrize(
     ("name", "password"),
     [
@@ -191,6 +194,7 @@ def test_an_overloaded_service_asks_to_try_again(service: Service) -> None:
     assert service.post("current", password_of("current")) == 200
 
 
+@with_few_rounds
 def test_the_log_has_the_names_of_users_and_no_password(
     service: Service, caplog: pytest.LogCaptureFixture
 ) -> None:
@@ -207,6 +211,7 @@ def test_the_log_has_the_names_of_users_and_no_password(
 # ---- A change of the password
 
 
+@with_few_rounds
 @pytest.mark.parametrize("name", ["current", "outdated", "bcrypt"])
 def test_a_wrong_old_password_is_answered_after_the_fixed_time(service: Service, name: str) -> None:
     client = service.client()

@@ -4,13 +4,12 @@ from __future__ import annotations
 import pytest
 from support.package import class_raised, package_under_test
 from support.policy_limits import (
-    LONGEST_PASSWORD,
     MD5CRYPT,
     METHODS,
     SCRYPT,
     SHA256CRYPT,
     SHA512CRYPT,
-    Policy,
+    is_longest,
     new_cost,
     random_policies,
 )
@@ -28,27 +27,18 @@ NAMES = {
 }
 
 
-def longest_within(policy: Policy) -> int | None:
-    """Returns the length of the longest password whose new hash is within the limit, or None."""
-    shortest, longest = -1, LONGEST_PASSWORD
-    while shortest < longest:
-        middle = (shortest + longest + 1) // 2
-        if new_cost(policy.method, policy.chosen_rounds, middle) <= policy.limit:
-            shortest = middle
-        else:
-            longest = middle - 1
-    return None if shortest < 0 else shortest
-
-
 def test_the_limit_and_the_longest_password_follow_the_formulas() -> None:
     for policy in random_policies(seed=7, count=POLICIES):
         if policy.method not in METHODS or policy.error:
             continue
         numbers = _library.Numbers(policy.method, policy.rounds, policy.budget)
-        answer, longest = _library.limit(numbers), longest_within(policy)
-        admitted = answer.report.cost, answer.report.length
-        assert admitted == (policy.limit, longest or 0), policy
-        assert answer.is_yes == (longest is not None), policy
+        answer = _library.limit(numbers)
+        report = answer.report
+        assert report.cost == policy.limit, policy
+        if new_cost(policy.method, policy.chosen_rounds, 0) > policy.limit:
+            assert (answer.is_yes, report.length) == (False, 0), policy
+        else:
+            assert answer.is_yes and is_longest(policy, report.length), (policy, report.length)
 
 
 @pytest.mark.parametrize("seed", range(3))

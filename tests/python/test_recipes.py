@@ -29,6 +29,7 @@ from support.package import (
     package_under_test,
     whole_login,
     whole_login_of_a_moving_service,
+    with_few_rounds,
 )
 from support.passwords import TOO_COSTLY, TOO_LONG
 from support.process import run
@@ -106,6 +107,7 @@ def from_an_address(names: dict[str, Any]) -> Any:
     return login
 
 
+@with_few_rounds
 @pytest.mark.parametrize("name", [*USERS, "nobody", None], ids=str)
 @pytest.mark.parametrize("password", WRONG_PASSWORDS, ids=title)
 def test_a_wrong_password_is_refused_and_changes_nothing(
@@ -115,6 +117,7 @@ def test_a_wrong_password_is_refused_and_changes_nothing(
     assert fields_of(database) == USERS
 
 
+@with_few_rounds
 def test_the_right_password_is_accepted(database: sqlite3.Connection, login: Any) -> None:
     names = [name for name in (*USERS, "nobody") if login(database, name, "password")]
     assert names == ["ann"]
@@ -176,11 +179,13 @@ def test_a_known_name_is_not_registered_again(
     assert fields_of(database) == USERS
 
 
+@with_few_rounds
 def test_a_read_only_database_keeps_the_old_hash(database: sqlite3.Connection, login: Any) -> None:
     database.execute("PRAGMA query_only = 1")
     assert login(database, "ann", "password") is True and fields_of(database)["ann"] == MD5
 
 
+@with_few_rounds
 @pytest.mark.parametrize(
     "error",
     [OSError(), MemoryError(), mkpasswd.TooCostly(2, 1)],
@@ -196,6 +201,7 @@ def test_a_failed_renewal_leaves_the_old_hash_and_accepts_the_login(
     assert login(database, "ann", "password") is True and fields_of(database)["ann"] == MD5
 
 
+@with_few_rounds
 @pytest.mark.parametrize(
     ("name", "logged"),
     [
@@ -219,8 +225,8 @@ def test_the_log_of_a_failure_has_the_address_and_names_only_users(
 
 @functools.cache
 def current_hash(password: str, salt: str) -> str:
-    """Returns libxcrypt's hash with the recommended rounds."""
-    return crypt(password, f"{RECOMMENDED}{salt}")
+    """Returns libxcrypt's hash with the rounds of `few_rounds`."""
+    return crypt(password, f"$6$rounds=1000${salt}")
 
 
 @dataclass(frozen=True)
@@ -293,6 +299,7 @@ def assert_respected(
         assert logged == [f"login failed: {change.logged_name!r} from '{ADDRESS}'"]
 
 
+@with_few_rounds
 @pytest.mark.parametrize("change", CHANGES, ids=str)
 @pytest.mark.parametrize("call", ["login", "new"], ids=["the check", "the renewal"])
 @pytest.mark.parametrize("is_late", [False, True], ids=["its beginning", "its end"])
@@ -310,6 +317,7 @@ def test_a_login_answers_by_what_is_stored_when_it_ends(
     assert_respected(change, database, answer, caplog)
 
 
+@with_few_rounds
 @pytest.mark.parametrize("change", CHANGES, ids=str)
 def test_a_login_with_a_current_hash_answers_by_what_is_stored_when_it_ends(
     database: sqlite3.Connection,
@@ -324,6 +332,7 @@ def test_a_login_with_a_current_hash_answers_by_what_is_stored_when_it_ends(
     assert_respected(change, database, answer, caplog)
 
 
+@with_few_rounds
 @pytest.mark.parametrize("change", CHANGES, ids=str)
 def test_a_change_after_the_renewal_is_respected(
     database: sqlite3.Connection,
@@ -344,6 +353,7 @@ def test_a_change_after_the_renewal_is_respected(
     assert_respected(change, database, answer, caplog)
 
 
+@with_few_rounds
 def test_a_new_password_that_comes_during_a_login_is_the_one_that_counts(
     database: sqlite3.Connection, login: Any, monkeypatch: pytest.MonkeyPatch
 ) -> None:
@@ -356,6 +366,7 @@ def test_a_new_password_that_comes_during_a_login_is_the_one_that_counts(
     assert fields_of(database)["ann"] == new
 
 
+@with_few_rounds
 def test_a_login_whose_hash_is_never_the_same_fails_after_three_checks(
     database: sqlite3.Connection,
     login: Any,
@@ -402,6 +413,7 @@ def test_a_password_is_changed(
     assert list(keys_of(database)) == ["ann"]
 
 
+@with_few_rounds
 @pytest.mark.parametrize("name", [*USERS, "nobody"])
 @pytest.mark.parametrize("old", ["passw0rd", ""])
 def test_a_wrong_old_password_changes_nothing(
@@ -429,6 +441,7 @@ def test_a_table_with_users_gets_a_key_for_each() -> None:
     assert len(set(keys_of(old).values())) == len(USERS)
 
 
+@with_few_rounds
 @pytest.mark.parametrize("change", ["!" + MD5, SHA512], ids=["a lock", "another change"])
 def test_changing_a_password_undoes_no_other_change(
     database: sqlite3.Connection,
@@ -447,6 +460,7 @@ def test_changing_a_password_undoes_no_other_change(
     assert fields_of(database)["ann"] == change
 
 
+@with_few_rounds
 def test_a_lock_locks_only_one_account(database: sqlite3.Connection, login: Any) -> None:
     database.execute(recipe("lock an account", "sql"))
     assert login(database, "ann", "password") is False
@@ -500,6 +514,7 @@ def test_a_user_with_an_old_hash_is_accepted_and_moves(
     assert moving_login(database, "ann", "passw0rd") is False
 
 
+@with_few_rounds
 @OLD_NEEDS
 @OLD_SCHEMES
 @pytest.mark.parametrize("password", WRONG_PASSWORDS, ids=title)
@@ -524,6 +539,7 @@ def test_a_password_too_long_for_a_new_hash_keeps_its_old_one(
     assert moving_login(database, "ann", "y" * length) is False
 
 
+@with_few_rounds
 @OLD_NEEDS
 @OLD_SCHEMES
 @pytest.mark.parametrize("damage", ["!{}", "*", "{}x", "x{}"])
@@ -534,6 +550,7 @@ def test_a_locked_or_damaged_old_hash_is_refused(
     assert moving_login(database, "ann", "password") is False
 
 
+@with_few_rounds
 @OLD_NEEDS
 @pytest.mark.parametrize(
     "field",
@@ -609,6 +626,7 @@ def test_a_query_shows_which_kinds_of_hashes_are_stored(database: sqlite3.Connec
     assert kinds == {"$2b": 1, "": 1, "!$1": 1, "$6$": 1, None: 1}
 
 
+@with_few_rounds
 @OLD_NEEDS
 @pytest.mark.parametrize("name", [*USERS, "nobody", None], ids=str)
 def test_users_without_an_old_hash_log_in_as_before(

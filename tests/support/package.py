@@ -73,6 +73,10 @@ def run_python(code: str, *, env: Changes | None = None, cwd: Path | None = None
     return run(sys.executable, "-c", code, env=environment, cwd=cwd)
 
 
+# The tests so marked make hashes with few rounds by the package's functions (python/conftest.py).
+with_few_rounds = pytest.mark.usefixtures("few_rounds")
+
+
 def error_of(call: Callable[..., object], *arguments: object, **named: object) -> Exception:
     """Returns the exception that a call raises."""
     with pytest.raises(Exception) as raised:

@@ -124,6 +124,17 @@ def fitted_rounds(policy: Policy, length: int) -> int | None:
     return rounds if new_cost(policy.method, rounds, length) <= policy.limit else None
 
 
+def is_longest(policy: Policy, length: int) -> bool:
+    """Returns whether a password of this length is within the limit, and no longer one is."""
+    if length > LONGEST_PASSWORD:
+        return False
+    if new_cost(policy.method, policy.chosen_rounds, length) > policy.limit:
+        return False
+    if length == LONGEST_PASSWORD:
+        return True
+    return new_cost(policy.method, policy.chosen_rounds, length + 1) > policy.limit
+
+
 # ---- Random policies
 
 
