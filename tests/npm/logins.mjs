@@ -35,7 +35,8 @@ const { Policy } = await import('mkpasswd');
 function isWiped({ memory, initial }) {
     const bytes = Buffer.from(memory.buffer);
     const grown = bytes.subarray(initial.length);
-    return bytes.subarray(0, initial.length).equals(initial) && grown.equals(grown.map(() => 0));
+    const isInitial = bytes.subarray(0, initial.length).equals(initial);
+    return isInitial && grown.equals(Buffer.alloc(grown.length));
 }
 
 // The methods are called without their policy, as functions.

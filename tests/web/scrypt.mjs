@@ -86,7 +86,9 @@ WebAssembly.Instance = function (compiled) {
     return instance;
 };
 
-const { Policy, crypt, describe, login, loginAsync } = await import(file);
+const { Policy, crypt, describe } = await import(file);
+// These have few rounds, since a login that matches a hash of scrypt also makes a new hash.
+const { login, loginAsync } = new Policy({ rounds: 1000 });
 
 async function outcomeOf(call) {
     try {
@@ -100,12 +102,15 @@ async function outcomeOf(call) {
 
 const isMatch = (result) => result === true || result.matches === true;
 
-// Reports the results of these calls for a password and its hash, and for a wrong password.
-async function checked([password, stored, calls]) {
+// Reports the hash of a password, the results of these calls for the password and its hash, and
+// those of other calls for a wrong password.
+async function checked([password, stored, calls, callsOfWrong]) {
     const policy = new Policy({ method: 'scrypt', rounds: 6, budget: NO_LIMIT });
     const report = { hash: crypt(password, stored, NO_LIMIT), right: {}, wrong: {} };
     for (const call of calls) {
         report.right[call] = isMatch(await policy[call](password, stored));
+    }
+    for (const call of callsOfWrong) {
         report.wrong[call] = isMatch(await policy[call](`${password}.`, stored));
     }
     return report;

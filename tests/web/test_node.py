@@ -230,14 +230,21 @@ class Stored:
         return f"{self.password.hex()} {self.text.hex()}\n".encode()
 
 
+# Those without rounds have 5000, and take most of the time.
+PREFIXES = (
+    *("$1$", "$5$", "$6$", "$5$rounds=1001$", "$6$rounds=1999$", "$7$46..../...."),
+    *("$1$", "$5$rounds=1000$", "$6$rounds=1003$", "$5$rounds=1002$", "$6$rounds=1000$"),
+    "$7$46..../....",
+)
+
+
 def random_hash(generator: random.Random, number: int) -> Stored:
     """Returns the hash of a random password, mostly short, at most as long as libxcrypt accepts."""
     is_short = number % 9 != 0
     length = generator.randint(0, 39 if is_short else LONGEST_PASSWORD)
     # The byte 1 is reserved for node.mjs, which makes wrong passwords with it.
     password = bytes(generator.randint(2, 255) for _ in range(length))
-    prefixes = ("$1$", "$5$", "$6$", "$5$rounds=1001$", "$6$rounds=1999$", "$7$46..../....")
-    prefix = prefixes[number % len(prefixes)]
+    prefix = PREFIXES[number % len(PREFIXES)]
     salt = "".join(generator.choices(SALT_CHARACTERS, k=generator.randint(0, 17)))
     return Stored(password, crypt(password, (prefix + salt).encode()))
 

@@ -15,6 +15,7 @@ from typing import Any
 
 import pytest
 from support import ROOT
+from support.costly_hashes import SCRYPT_OF_32_MIB
 from support.libxcrypt import crypt
 from support.npm_site import Site
 from support.process import assert_result, run, started
@@ -343,7 +344,7 @@ class Login:
 CURRENT = crypt(b"password", b"$6$rounds=5000$saltsaltsaltsalt").decode()
 OLD = crypt(b"password", b"$1$saltsalt").decode()
 FEW_ROUNDS = crypt(b"password", b"$6$rounds=1000$saltsaltsaltsalt").decode()
-SCRYPT = crypt(b"password", b"$7$BU..../....SodiumChloride").decode()  # takes 32 MiB
+SCRYPT = SCRYPT_OF_32_MIB.decode()
 HORSE = "K\u00e4se \U0001f40e"
 HASH_OF_HORSE = crypt(HORSE.encode(), b"$6$rounds=5000$saltsaltsaltsalt").decode()
 

@@ -10,9 +10,10 @@ import json
 import re
 from dataclasses import dataclass
 from pathlib import Path
-from typing import Sequence
+from typing import Any, Sequence
 
 import pytest
+from support.costly_hashes import SHA512CRYPT_WITH_LONGEST_SALT
 from support.libxcrypt import crypt
 from support.npm_site import Site
 from support.process import assert_result, run
@@ -59,10 +60,30 @@ def faster(program: str) -> str:
     return changed
 
 
+# The policy of cheaper(), in JavaScript and TypeScript.
+CHEAP_POLICY = """
+import { Policy as CheapPolicy } from 'mkpasswd';
+const cheapPolicy = new CheapPolicy({ rounds: 1000 });
+"""
+
+
+def cheaper(program: str) -> str:
+    """Returns a faster program whose new hashes have the fewest rounds."""
+    time = "failureTime: 1000"
+    changed = faster(program).replace(time, f"{time}, policy: cheapPolicy")
+    return CHEAP_POLICY + changed
+
+
 @pytest.fixture(scope="module")
 def login_program(web_build: Path) -> str:
     """The program with a login."""
     return faster(program_of_readme(web_build, "A first login"))
+
+
+@pytest.fixture(scope="module")
+def cheap_login_program(web_build: Path) -> str:
+    """The program with a login, whose new hashes have the fewest rounds."""
+    return cheaper(program_of_readme(web_build, "A first login"))
 
 
 @pytest.mark.parametrize(
@@ -97,92 +118,119 @@ def test_program_of_readme_renews_an_outdated_hash(user: Site, login_program: st
     ],
 )
 def test_program_of_readme_refuses_a_user_whose_field_changed_meanwhile(
-    user: Site, login_program: str, change: str
+    user: Site, cheap_login_program: str, change: str
 ) -> None:
     after = "const result = await queue.login(password, field);\n"
-    changed = login_program.replace(after, f"{after}{change};\n")
-    assert changed != login_program, "the program has no such login"
+    changed = cheap_login_program.replace(after, f"{after}{change};\n")
+    assert changed != cheap_login_program, "the program has no such login"
     report = login_of_readme(user, changed, "ann", "correct horse")
     assert report["entered"] == [], report
 
 
 def test_program_of_readme_keeps_the_first_of_two_registrations(
-    user: Site, login_program: str
+    user: Site, cheap_login_program: str
 ) -> None:
     while_hashing = "users.set('ann', 'of the first');\n"
     before = "if (!users.has('ann'))"
-    changed = login_program.replace(before, while_hashing + before)
-    assert changed != login_program, "the program doesn't look for the name"
+    changed = cheap_login_program.replace(before, while_hashing + before)
+    assert changed != cheap_login_program, "the program doesn't look for the name"
     report = login_of_readme(user, changed, "ann", "correct horse")
     assert (report["entered"], report["stored"]) == ([], "of the first"), report
 
 
-def test_program_of_readme_lets_nobody_in_without_its_await(user: Site, login_program: str) -> None:
-    careless = login_program.replace("await queue.login", "queue.login")
-    assert careless != login_program, "the program awaits no login"
+def test_program_of_readme_lets_nobody_in_without_its_await(
+    user: Site, cheap_login_program: str
+) -> None:
+    careless = cheap_login_program.replace("await queue.login", "queue.login")
+    assert careless != cheap_login_program, "the program awaits no login"
     report = login_of_readme(user, careless, "ann", "wrong horse")
     assert report["entered"] == [], report
 
 
-# Reports why a login with this field and password failed. A policy of one's own is made before.
-REASON_OF_FAILURE = """
-const [field, password] = process.argv.slice(2);
-console.log(JSON.stringify({ reason: reasonOfFailure(password, field) }));
+# Reports why logins with these fields and passwords failed. A policy of one's own is made before.
+REASONS_OF_FAILURES = """
+import { readFileSync } from 'node:fs';
+const failures = JSON.parse(readFileSync(0, 'utf8'));
+console.log(JSON.stringify(failures.map(([field, password]) => reasonOfFailure(password, field))));
 """
 OWN_POLICY = """
 const policy = new Policy({ rounds: 77000, budget: 29820992 });
 const { limit, passwordProblem } = policy;
 """
 OF_OWN_POLICY = crypt(b"password", b"$6$rounds=77000$saltsaltsaltsalt").decode()
-RECOMMENDED = crypt(b"password", b"$6$rounds=656000$saltsaltsaltsalt").decode()
+RECOMMENDED = SHA512CRYPT_WITH_LONGEST_SALT.decode()
 CHECKED = crypt(b"password", b"$6$rounds=1000$saltsaltsaltsalt").decode()
 TOO_COSTLY = "$6$rounds=2000000$saltsaltsaltsalt$" + "." * 86  # for passwords of 64 bytes
 TOO_COSTLY_FOR_ALL = "$6$rounds=999999999$saltsaltsaltsalt$" + "." * 86
 OF_BCRYPT = "$2b$05$abcdefghijklmnopqrstuuqDsKnOFqPaNCEhHd5ZzD0Y1nJ1xN0cG"
 
 
-@pytest.mark.parametrize(
-    ("field", "password", "reason"),
-    [
-        # The recommended policy admits 168 bytes.
-        pytest.param(CHECKED, "x" * 169, "too long", id="a password that is too long"),
-        pytest.param(CHECKED, "wrong", "wrong password", id="an outdated hash"),
-        pytest.param(RECOMMENDED, "wrong", "wrong password", id="a current hash"),
-        pytest.param(TOO_COSTLY_FOR_ALL, "wrong", "over budget", id="a costly hash"),
-        pytest.param(TOO_COSTLY, "x" * 64, "over budget", id="a long password"),
-        pytest.param(f"!{CHECKED}", "password", "locked", id="a locked account"),
-        pytest.param(CHECKED[:40], "password", "dead", id="a cut hash"),
-        pytest.param(OF_BCRYPT, "wrong", "unknown", id="another scheme"),
-    ],
-)
-def test_program_of_readme_tells_why_a_login_failed(
-    user: Site, web_build: Path, field: str, password: str, reason: str
-) -> None:
-    program = program_of_readme(web_build, "Why a login failed")
-    (user.folder / "reason.mjs").write_text(program + REASON_OF_FAILURE, encoding="utf-8")
-    report = user.report_of("reason.mjs", field, password)
-    assert report["reason"] == reason, report
+@dataclass(frozen=True)
+class Failure:
+    """A login that fails, and why."""
+
+    title: str
+    field: str
+    password: str
+    reason: str
 
 
-@pytest.mark.parametrize(
-    ("field", "password", "reason"),
-    [
-        pytest.param(OF_OWN_POLICY, "wrong", "wrong password", id="a hash of the policy"),
-        pytest.param(CHECKED, "wrong", "wrong password", id="a cheaper hash"),
-        pytest.param(RECOMMENDED, "wrong", "over budget", id="a costlier hash"),
-        pytest.param(OF_OWN_POLICY, "x" * 1024, "too long", id="a password that is too long"),
-    ],
-)
-def test_program_of_readme_tells_why_a_login_failed_with_another_budget(
-    user: Site, web_build: Path, field: str, password: str, reason: str
-) -> None:
+FAILURES = [
+    # The recommended policy admits 168 bytes.
+    Failure("a password that is too long", CHECKED, "x" * 169, "too long"),
+    Failure("an outdated hash", CHECKED, "wrong", "wrong password"),
+    Failure("a current hash", RECOMMENDED, "wrong", "wrong password"),
+    Failure("a costly hash", TOO_COSTLY_FOR_ALL, "wrong", "over budget"),
+    Failure("a long password", TOO_COSTLY, "x" * 64, "over budget"),
+    Failure("a locked account", f"!{CHECKED}", "password", "locked"),
+    Failure("a cut hash", CHECKED[:40], "password", "dead"),
+    Failure("another scheme", OF_BCRYPT, "wrong", "unknown"),
+]
+FAILURES_WITH_ANOTHER_BUDGET = [
+    Failure("a hash of the policy", OF_OWN_POLICY, "wrong", "wrong password"),
+    Failure("a cheaper hash", CHECKED, "wrong", "wrong password"),
+    Failure("a costlier hash", RECOMMENDED, "wrong", "over budget"),
+    Failure("a password that is too long", OF_OWN_POLICY, "x" * 1024, "too long"),
+]
+
+
+def reasons_of_failures(user: Site, program: str, failures: list[Failure]) -> Report:
+    """Returns the reasons that a program finds."""
+    (user.folder / "reasons.mjs").write_text(program + REASONS_OF_FAILURES, encoding="utf-8")
+    given = [[failure.field, failure.password] for failure in failures]
+    return user.report_of("reasons.mjs", given=given)
+
+
+@pytest.fixture(scope="module")
+def reasons(user: Site, web_build: Path) -> Report:
+    """The reasons of FAILURES."""
+    return reasons_of_failures(user, program_of_readme(web_build, "Why a login failed"), FAILURES)
+
+
+@pytest.fixture(scope="module")
+def reasons_with_another_budget(user: Site, web_build: Path) -> Report:
+    """The reasons of FAILURES_WITH_ANOTHER_BUDGET."""
     program = program_of_readme(web_build, "Why a login failed")
     changed = program.replace(", limit, passwordProblem }", " }")
     assert changed != program, "the program imports no limit"
-    text = OWN_POLICY + changed + REASON_OF_FAILURE
-    (user.folder / "reason.mjs").write_text(text, encoding="utf-8")
-    report = user.report_of("reason.mjs", field, password)
-    assert report["reason"] == reason, report
+    return reasons_of_failures(user, OWN_POLICY + changed, FAILURES_WITH_ANOTHER_BUDGET)
+
+
+@pytest.mark.parametrize("row", FAILURES, ids=[row.title for row in FAILURES])
+def test_program_of_readme_tells_why_a_login_failed(reasons: Report, row: Failure) -> None:
+    assert reasons.value[FAILURES.index(row)] == row.reason, reasons
+
+
+@pytest.mark.parametrize(
+    "row",
+    FAILURES_WITH_ANOTHER_BUDGET,
+    ids=[row.title for row in FAILURES_WITH_ANOTHER_BUDGET],
+)
+def test_program_of_readme_tells_why_a_login_failed_with_another_budget(
+    reasons_with_another_budget: Report, row: Failure
+) -> None:
+    reason = reasons_with_another_budget.value[FAILURES_WITH_ANOTHER_BUDGET.index(row)]
+    assert reason == row.reason, reasons_with_another_budget
 
 
 # A queue that takes one login at a time, and a user whose password is "password".
@@ -209,15 +257,15 @@ def test_program_of_readme_answers_with_http_statuses(user: Site, web_build: Pat
 
 
 # A service in which somebody changes ann's field after each login, before the program reads the
-# field again. It reports the statuses of logins at once, how many hashes they checked, what they
-# stored, and what is stored at the end.
+# field again. It reports for each row the statuses of logins at once, how many hashes they checked,
+# what they stored, and what is stored at the end.
 OF_A_CHANGING_SERVICE = """
 import { readFileSync } from 'node:fs';
 import { LoginQueue, Policy } from 'mkpasswd';
 
-const { stored, changes, count } = JSON.parse(readFileSync(0, 'utf8'));
+const rows = JSON.parse(readFileSync(0, 'utf8'));
 const realQueue = new LoginQueue({ policy: new Policy({ rounds: 1000 }), failureTime: 0 });
-const written = [];
+let written, logins, changes;
 class Users extends Map {
     set(name, field) {
         written.push(field);
@@ -230,8 +278,6 @@ class Users extends Map {
     }
 }
 const users = new Users();
-users.change(stored);
-let logins = 0;
 const queue = {
     async login(password, field) {
         const result = await realQueue.login(password, field);
@@ -242,9 +288,15 @@ const queue = {
 };
 """
 STATUSES_OF_CHANGES = """
-const calls = Array.from({ length: count }, () => statusOfLogin('ann', 'password'));
-const statuses = await Promise.all(calls);
-console.log(JSON.stringify({ statuses, logins, written, stored: users.get('ann') ?? null }));
+const reports = [];
+for (const row of rows) {
+    [written, logins, changes] = [[], 0, row.changes];
+    users.change(row.stored);
+    const calls = Array.from({ length: row.count }, () => statusOfLogin('ann', 'password'));
+    const statuses = await Promise.all(calls);
+    reports.push({ statuses, logins, written, stored: users.get('ann') ?? null });
+}
+console.log(JSON.stringify(reports));
 """
 OUTDATED = crypt(b"password", b"$1$saltsalt").decode()
 OF_THE_SAME_PASSWORD = crypt(b"password", b"$6$rounds=1000$another.salt").decode()
@@ -289,39 +341,45 @@ CHANGES_MEANWHILE = [
 ]
 
 
-def report_of_changes(
-    user: Site, web_build: Path, stored: str, changes: tuple[str | None, ...], count: int = 1
-) -> Report:
-    """Returns what logins at once answer and store while the field changes."""
+RENEWAL = Meanwhile("a renewal", OUTDATED, status=200, logins=1)
+
+
+def given_to_changing_service(row: Meanwhile, count: int = 1) -> dict[str, Any]:
+    """Returns a row for OF_A_CHANGING_SERVICE, with this number of logins at once."""
+    return {"stored": row.stored, "changes": row.changes, "count": count}
+
+
+@pytest.fixture(scope="module")
+def meanwhile(user: Site, web_build: Path) -> Report:
+    """The reports of CHANGES_MEANWHILE, and then of one renewal and of two at once."""
     program = program_of_readme(web_build, "Too many logins")
     text = OF_A_CHANGING_SERVICE + program + STATUSES_OF_CHANGES
     (user.folder / "meanwhile.mjs").write_text(text, encoding="utf-8")
-    given = {"stored": stored, "changes": changes, "count": count}
-    return user.report_of("meanwhile.mjs", given=given)
+    rows = [given_to_changing_service(row) for row in CHANGES_MEANWHILE]
+    renewals = [given_to_changing_service(RENEWAL, count) for count in (1, 2)]
+    return user.report_of("meanwhile.mjs", given=[*rows, *renewals])
 
 
 @pytest.mark.parametrize("row", CHANGES_MEANWHILE, ids=[row.title for row in CHANGES_MEANWHILE])
 def test_program_with_statuses_answers_by_what_is_stored_after_the_login(
-    user: Site, web_build: Path, row: Meanwhile
+    meanwhile: Report, row: Meanwhile
 ) -> None:
-    report = report_of_changes(user, web_build, row.stored, row.changes)
-    assert (report["statuses"], report["logins"]) == ([row.status], row.logins), report
-    assert (report["written"], report["stored"]) == ([], row.stored_at_the_end), report
+    report = meanwhile.value[CHANGES_MEANWHILE.index(row)]
+    assert (report["statuses"], report["logins"]) == ([row.status], row.logins), meanwhile
+    assert (report["written"], report["stored"]) == ([], row.stored_at_the_end), meanwhile
 
 
-def test_program_with_statuses_stores_a_renewed_hash(user: Site, web_build: Path) -> None:
-    report = report_of_changes(user, web_build, OUTDATED, ())
-    assert (report["statuses"], report["logins"]) == ([200], 1), report
-    assert report["written"] == [report["stored"]], report
-    assert report["stored"].startswith("$6$rounds=1000$"), report
+def test_program_with_statuses_stores_a_renewed_hash(meanwhile: Report) -> None:
+    report = meanwhile.value[-2]
+    assert (report["statuses"], report["logins"]) == ([RENEWAL.status], RENEWAL.logins), meanwhile
+    assert report["written"] == [report["stored"]], meanwhile
+    assert report["stored"].startswith("$6$rounds=1000$"), meanwhile
 
 
-def test_program_with_statuses_stores_one_of_two_renewed_hashes(
-    user: Site, web_build: Path
-) -> None:
-    report = report_of_changes(user, web_build, OUTDATED, (), count=2)
-    assert (report["statuses"], report["logins"]) == ([200, 200], 3), report
-    assert report["written"] == [report["stored"]], report
+def test_program_with_statuses_stores_one_of_two_renewed_hashes(meanwhile: Report) -> None:
+    report = meanwhile.value[-1]
+    assert (report["statuses"], report["logins"]) == ([200, 200], 3), meanwhile
+    assert report["written"] == [report["stored"]], meanwhile
 
 
 OF_AN_OLD_SERVICE = """
@@ -454,23 +512,25 @@ def test_program_of_readme_answers_an_old_match_at_once(user: Site, old_service:
     assert user.report_of("match.mjs")["status"] == 200
 
 
-def test_program_of_readme_changes_a_password_with_an_old_hash(
-    user: Site, old_service: str
-) -> None:
+@pytest.fixture(scope="module")
+def old_changes(user: Site, old_service: str) -> Report:
+    """What the program does with changes of a password."""
     (user.folder / "old_change.mjs").write_text(old_service + OLD_CHANGES, encoding="utf-8")
-    report = user.report_of("old_change.mjs")
-    assert report["changed"] == 200, report
-    stored = report["stored"]
-    assert stored.startswith("$6$") and stored == crypt(b"new", stored.encode()).decode(), report
+    return user.report_of("old_change.mjs")
+
+
+def test_program_of_readme_changes_a_password_with_an_old_hash(old_changes: Report) -> None:
+    assert old_changes["changed"] == 200, old_changes
+    stored = old_changes["stored"]
+    assert stored.startswith("$6$"), old_changes
+    assert stored == crypt(b"new", stored.encode()).decode(), old_changes
 
 
 @pytest.mark.parametrize(("refused", "status"), [("empty", 400), ("long", 400), ("wrong", 403)])
 def test_program_of_readme_refuses_a_change_alike_for_old_and_new_hashes(
-    user: Site, old_service: str, refused: str, status: int
+    old_changes: Report, refused: str, status: int
 ) -> None:
-    (user.folder / "old_change.mjs").write_text(old_service + OLD_CHANGES, encoding="utf-8")
-    report = user.report_of("old_change.mjs")
-    assert (report[refused], report["isKept"]) == ([status] * 3, True), report
+    assert (old_changes[refused], old_changes["isKept"]) == ([status] * 3, True), old_changes
 
 
 def test_program_of_readme_refuses_a_change_late_for_old_and_new_hashes(
@@ -653,7 +713,7 @@ def whole_service(web_build: Path) -> str:
 
 
 def test_program_of_readme_is_a_whole_service(user: Site, whole_service: str) -> None:
-    changed = faster(whole_service).replace("\ncreateServer(", "\nconst server = createServer(")
+    changed = cheaper(whole_service).replace("\ncreateServer(", "\nconst server = createServer(")
     assert "const server" in changed and ".listen(8000," in changed
     text = changed.replace(".listen(8000,", ".listen(0,") + REQUESTS
     (user.folder / "whole.mjs").write_text(text, encoding="utf-8")
@@ -868,7 +928,7 @@ console.log(JSON.stringify({
 
 @pytest.mark.needs("tsc")
 def test_program_of_readme_in_typescript_decides(user: Site, web_build: Path) -> None:
-    program = faster(program_of_readme(web_build, "TypeScript", "ts"))
+    program = cheaper(program_of_readme(web_build, "TypeScript", "ts"))
     (user.folder / "decide.mts").write_text(program, encoding="utf-8")
     options = ("--strict", "--target", "es2022", "--module", "nodenext")
     assert_result(run("tsc", *options, "decide.mts", cwd=user.folder))

@@ -14,6 +14,7 @@ from pathlib import Path
 import pytest
 from support import ROOT
 from support.browsers import Browser
+from support.costly_hashes import SCRYPT_AT_DEFAULT, SHA512CRYPT_AT_DEFAULT
 from support.libxcrypt import crypt
 from support.model.methods import SCRYPT, SHA512CRYPT
 from support.model.settings import read_setting
@@ -306,8 +307,8 @@ def page_script(server: WebServer) -> str:
     values = {
         "SERVER": server.address,
         "ROWS": [[row.stored, row.password] for row in UNCHECKED],
-        "CURRENT": crypt(b"password", b"$6$rounds=656000$saltsaltsaltsalt").decode(),
-        "SCRYPT": crypt(b"password", b"$7$CU..../....SodiumChloride").decode(),
+        "CURRENT": SHA512CRYPT_AT_DEFAULT.decode(),
+        "SCRYPT": SCRYPT_AT_DEFAULT.decode(),
     }
     defined = [f"const {name} = {json.dumps(value)};\n" for name, value in values.items()]
     script = PAGE_SCRIPT.read_text(encoding="utf-8")

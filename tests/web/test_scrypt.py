@@ -59,11 +59,11 @@ def of_hashlib(log_n: int, r: int, p: int) -> str:
 
 DEFAULT = scrypt_setting(14, 32, 1)
 SMALL = scrypt_setting(10, 8, 1)
-LARGE = scrypt_setting(16, 32, 1)  # takes 256 MiB, more than a worker keeps
-PASSWORD_HASH_AT_DEFAULT = of_libxcrypt(PASSWORD, DEFAULT)
+LARGE = scrypt_setting(15, 40, 1)  # takes 160 MiB, more than a worker keeps
+# Written out, since each worker of pytest would make it anew when it collects the tests.
+PASSWORD_HASH_AT_DEFAULT = f"{DEFAULT}$lHsVe.STySYo6MJMEVavCrBnSbbLcXncuI4avmyB22C"
 HASH_OF_SMALL = of_libxcrypt(PASSWORD, SMALL)
-HASH_OF_LARGE = of_libxcrypt(PASSWORD, LARGE)
-HASH_OF_SHA = of_libxcrypt(PASSWORD, "$6$rounds=656000$saltsaltsaltsalt")
+HASH_OF_SHA = of_libxcrypt(PASSWORD, "$6$rounds=5000$saltsaltsaltsalt")
 
 
 @pytest.fixture(scope="module")
@@ -84,25 +84,33 @@ CALLS = ["verify", "login", "loginAsync"]
 
 
 @pytest.mark.parametrize(
-    ("log_n", "r", "p", "calls"),
+    ("log_n", "r", "p"),
     [
-        pytest.param(14, 32, 1, CALLS, id="64 MiB, the program's default"),
-        # Each hash of 1 GiB takes seconds, so only one call is tried: `checked` makes the hash in
-        # this thread, and loginAsync checks it in a worker.
-        pytest.param(18, 32, 1, ["loginAsync"], id="1 GiB", marks=pytest.mark.slow),
-        pytest.param(10, 8, 3, CALLS, id="three parts"),
-        pytest.param(2, 1, 1, CALLS, id="four rows of 128 bytes"),
+        pytest.param(14, 32, 1, id="64 MiB, the program's default"),
+        pytest.param(10, 8, 3, id="three parts"),
+        pytest.param(2, 1, 1, id="four rows of 128 bytes"),
     ],
 )
 def test_right_password_matches_and_wrong_one_does_not(
-    report_of: Callable[..., Report], log_n: int, r: int, p: int, calls: list[str]
+    report_of: Callable[..., Report], log_n: int, r: int, p: int
 ) -> None:
     stored = of_libxcrypt(PASSWORD, scrypt_setting(log_n, r, p))
     assert stored == of_hashlib(log_n, r, p)
-    report = report_of("checked", [PASSWORD, stored, calls])
+    report = report_of("checked", [PASSWORD, stored, CALLS, CALLS])
     assert report["hash"] == stored
-    assert report["right"] == dict.fromkeys(calls, True)
-    assert report["wrong"] == dict.fromkeys(calls, False)
+    assert report["right"] == dict.fromkeys(CALLS, True)
+    assert report["wrong"] == dict.fromkeys(CALLS, False)
+
+
+@pytest.mark.slow
+def test_hash_that_takes_1_gib_is_made_in_this_thread_and_checked_in_a_worker(
+    report_of: Callable[..., Report],
+) -> None:
+    """Each hash takes seconds, so that no other call and no wrong password is tried."""
+    stored = of_libxcrypt(PASSWORD, scrypt_setting(18, 32, 1))
+    report = report_of("checked", [PASSWORD, stored, ["loginAsync"], []])
+    assert report["hash"] == stored
+    assert report["right"] == {"loginAsync": True}
 
 
 # ---- Too little memory
@@ -268,11 +276,11 @@ def test_memory_of_a_worker_grows_to_the_largest_need(report_of: Callable[..., R
 
 @pytest.mark.slow
 def test_worker_does_not_keep_a_very_large_memory(report_of: Callable[..., Report]) -> None:
-    stored = (HASH_OF_LARGE, PASSWORD_HASH_AT_DEFAULT)
+    stored = (of_libxcrypt(PASSWORD, LARGE), PASSWORD_HASH_AT_DEFAULT)
     report = report_of("inTurn", [["wrong", field] for field in stored])
     assert report["outcomes"] == [False, False], report
     of_large, of_default = report["workers"]
-    assert of_large["pages"] > 4 * PAGES_OF_DEFAULT, report
+    assert of_large["pages"] > 2 * PAGES_OF_DEFAULT, report
     assert is_of_default(of_default["pages"]), report
     assert report["ended"] == 2, report
 
