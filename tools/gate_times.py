@@ -183,7 +183,7 @@ def row_of(cells: Sequence[str]) -> str:
 
 
 def cells_of(times: Times, crate: str) -> list[str]:
-    """Returns the row of a crate."""
+    """Returns the cells of a crate's row: its name, its times, and how many mutants were tried."""
 
     def seconds(part: Part) -> str:
         moment = times.moment(crate, part)

@@ -73,8 +73,8 @@ class Pool {
         return index < 0 ? undefined : this.#waiting.splice(index, 1)[0];
     }
 
-    // Whether there is memory for a call. A call that once ran out of memory waits until others use
-    // less.
+    // Returns whether there is memory for a call. A call that once ran out of memory waits until
+    // others use less.
     #hasMemoryFor({ memory, usedByOthers }) {
         if (memory === 0 || this.#usedMemory === 0) return true;
         const isLessUsed = this.#usedMemory < usedByOthers;

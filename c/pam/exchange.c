@@ -112,8 +112,8 @@ bool end_earlier_exchange(const struct place *place)
     return unlinkat(place->folder, place->exchange_name, 0) == 0;
 }
 
-/* Whether a file is still as it was: the same file, and nobody has written to it or changed its
- * owner or mode. The time of the last change (ctime) can't show that, since the exchange itself
+/* Returns whether a file is still as it was: the same file, and nobody has written to it or changed
+ * its owner or mode. The time of the last change (ctime) can't show that, since the exchange itself
  * sets it. */
 static bool is_unchanged(const struct stat *now, const struct stat *before)
 {
@@ -123,8 +123,8 @@ static bool is_unchanged(const struct stat *now, const struct stat *before)
         && now->st_uid == before->st_uid && now->st_gid == before->st_gid;
 }
 
-/* Whether a file is the same one, and nobody has changed anything about it, attributes included.
- * This works only before an exchange, which sets the time of the last change (ctime). */
+/* Returns whether a file is the same one, and nobody has changed anything about it, attributes
+ * included. This works only before an exchange, which sets the time of the last change (ctime). */
 static bool is_untouched(const struct stat *now, const struct stat *before)
 {
     return is_same_file(now, before) && now->st_ctim.tv_sec == before->st_ctim.tv_sec

@@ -70,7 +70,7 @@ void wipe_hash(struct hash *hash)
     explicit_bzero(hash, sizeof *hash);
 }
 
-/* Whether a login costs too much even with the empty password, the cheapest one. */
+/* Returns whether a login costs too much even with the empty password, the cheapest one. */
 static bool is_over_limit(const struct mkpasswd_policy *policy, struct mkpasswd_field field)
 {
     struct mkpasswd_report limit, least;

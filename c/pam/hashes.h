@@ -24,8 +24,8 @@ struct check {
 /* Finds the number of a method by its name. Returns false for an unknown name. */
 bool find_method(const char *name, uint32_t *method);
 
-/* Whether the policy is valid, and its budget allows a new hash of each password of up to 64 bytes.
- * If not, the message says why. */
+/* Returns whether the policy is valid, and its budget allows a new hash of each password of up to
+ * 64 bytes. If not, the message says why. */
 bool allows_new_hashes(const struct mkpasswd_policy *policy, struct message *message);
 
 /* Checks a password against a field; for an unknown name the field is empty. If the field can't be

@@ -50,8 +50,8 @@ static int open_lock(const struct place *place)
     return lock;
 }
 
-/* Whether the lock's name still leads to this file. If somebody has removed it, another process may
- * hold a new one. */
+/* Returns whether the lock's name still leads to this file. If somebody has removed it, another
+ * process may hold a new one. */
 static bool is_in_place(int lock, const struct place *place)
 {
     struct stat locked, named;

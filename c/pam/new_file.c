@@ -39,8 +39,8 @@ static bool write_bytes(int fd, const char *bytes, size_t len)
     return true;
 }
 
-/* Whether this process may write a file of this size. A write beyond the limit would kill the
- * process. */
+/* Returns whether this process may write a file of this size. A write beyond the limit would kill
+ * the process. */
 static bool is_within_limit(size_t size)
 {
     struct rlimit limit;
@@ -71,7 +71,7 @@ static bool write_lines(
     return write_bytes(fd, rest, after);
 }
 
-/* Whether a file has this owner and mode. If not, errno is EPERM. */
+/* Returns whether a file has this owner and mode. If not, errno is EPERM. */
 static bool has_owner_and_mode(int fd, const struct stat *wanted)
 {
     struct stat file;
@@ -127,7 +127,7 @@ static bool is_among(const struct names *names, const char *wanted)
     return false;
 }
 
-/* Whether a file has an attribute with this value. */
+/* Returns whether a file has an attribute with this value. */
 static bool has_value(int fd, const char *name, const char *value, size_t len)
 {
     char *own = malloc(XATTR_SIZE_MAX);

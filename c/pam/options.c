@@ -102,8 +102,8 @@ static bool read_argument(const char *argument, struct options *options)
     return false;
 }
 
-/* Whether the file is /etc/shadow, under any name. That file is pam_unix's, and programs that
- * change it take another lock. */
+/* Returns whether the file is /etc/shadow, under any name. That file is pam_unix's, and programs
+ * that change it take another lock. */
 static bool is_shadow(const char *path)
 {
     struct stat file, shadow;
@@ -124,8 +124,8 @@ static bool read_arguments(
     return true;
 }
 
-/* Whether the arguments, each of which is valid, fit together: file= is among them, but not with
- * /etc/shadow, and they allow new hashes. */
+/* Returns whether the arguments, each of which is valid, fit together: file= is among them, but not
+ * with /etc/shadow, and they allow new hashes. */
 static bool are_valid_together(const pam_handle_t *pam, const struct options *options)
 {
     struct message message;

@@ -80,7 +80,8 @@ static const char *find_character(const char *start, const char *end, char chara
     return place != NULL ? place : end;
 }
 
-/* Whether a line begins with this name and a colon. A line that begins with # is a comment. */
+/* Returns whether a line begins with this name and a colon. A line that begins with # is a
+ * comment. */
 static bool has_name(const char *line, const char *line_end, const char *name, size_t name_len)
 {
     const char *colon = find_character(line, line_end, ':');

@@ -23,7 +23,7 @@ bool open_place(const char *path, struct place *place);
 
 void close_place(const struct place *place);
 
-/* Whether two descriptions are of the same file, even if its content has changed. */
+/* Returns whether two descriptions are of the same file, even if its content has changed. */
 bool is_same_file(const struct stat *first, const struct stat *second);
 
 #endif

@@ -21,7 +21,7 @@ struct replacement {
 /* Replaces a field. Unless it returns DONE, the file stays as it is. */
 enum outcome replace_field(const char *path, const struct replacement *replacement);
 
-/* Whether this process may replace the file. If not, errno says why. */
+/* Returns whether this process may replace the file. If not, errno says why. */
 bool can_replace(const char *path);
 
 #endif

@@ -40,7 +40,8 @@ WITH_FIELD = [
     Call("cost(.., 8)", lambda field: cost(field, 8)),
 ]
 A_NUMBER: Any = 0
-# These also accept None, and crypt an empty setting too. So both become a number.
+# These calls accept None too, and crypt() also an empty setting. So A_NUMBER, which no call
+# accepts, takes the place of these.
 WITH_FIELD_OR_NONE = [
     Call("setting(..)", lambda salt: Policy().setting(A_NUMBER if salt is None else salt)),
     Call("describe(..)", lambda field: describe(A_NUMBER if field is None else field)),

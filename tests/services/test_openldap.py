@@ -64,7 +64,7 @@ def fixture_folder(tmp_path_factory: pytest.TempPathFactory) -> Path:
 
 @contextlib.contextmanager
 def openldap(site: Site, folder: Path) -> Iterator[Service]:
-    """Runs OpenLDAP."""
+    """Runs OpenLDAP with the folder's configuration during the block."""
     command = ("slapd", "-d", "0", "-h", f"{URL} ldapi:///", "-f", folder / "slapd.conf")
     with serving(site.machine, PORT, *command, log=folder / "log") as service:
         yield service

@@ -95,7 +95,7 @@ def started_program(*words: str | bytes, **options: Any) -> subprocess.Popen[byt
 
 
 def pwhash(*words: str | bytes, stdin: bytes = b"") -> Ended:
-    """Runs pwhash."""
+    """Runs pwhash with these words and this standard input, and waits for its end."""
     return ended(started(*words), stdin)
 
 

@@ -85,7 +85,7 @@ def fields_of(policy: Policy) -> dict[str, bytes | None]:
 
 
 def password_and_field(field: bytes | None) -> tuple[str, ...]:
-    """Returns the last arguments of a client."""
+    """Returns a client's last arguments: the password, and the field if there is one."""
     return (PASSWORD.decode(),) if field is None else (PASSWORD.decode(), field.decode())
 
 

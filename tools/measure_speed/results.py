@@ -159,7 +159,7 @@ def format_part(part: Part, measured: Measured) -> str:
 
 
 def format_results(results: Results) -> str:
-    """Formats the whole file."""
+    """Formats all results, as docs/speed.json has them."""
     parts = [format_part(part, results.parts[part]) for part in Part if part in results.parts]
     return "{" + ",\n".join(parts) + "}\n"
 

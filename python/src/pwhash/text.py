@@ -27,7 +27,7 @@ def is_utf8(data: bytes) -> bool:
 
 
 def encoding_hint(name: bytes) -> str:
-    """Returns a sentence, with a blank before it, if a name from the command line isn't UTF-8."""
+    """Returns a blank and a sentence about a name that isn't UTF-8, or nothing if it is."""
     if is_utf8(name):
         return ""
     return " NAME isn't UTF-8: the terminal may have another encoding than the file."

@@ -116,7 +116,7 @@ def length_to_hash(source: Source) -> int:
 
 
 def cheap_scrypt(source: Source) -> Setting:
-    """Returns a scrypt setting that takes almost no time."""
+    """Returns a scrypt setting for a cheap hash: N is at most 64."""
     numbers = ScryptCost(source.between(2, 6), source.between(1, 6), source.between(1, 4))
     return Setting(SCRYPT, fields.salt(source, source.between(0, 86)), scrypt=numbers)
 
@@ -193,7 +193,7 @@ def good_hash(source: Source) -> KnownHash | None:
 
 
 def good_setting(source: Source) -> Setting:
-    """Returns a setting that takes almost no time."""
+    """Returns a cheap setting: SHA-crypt's rounds are at most 5000, and scrypt's N at most 32."""
     md5crypt, sha256crypt, sha512crypt, scrypt = METHODS
     method = source.one_of(md5crypt, *[sha256crypt, sha512crypt, scrypt] * 2)
     if method is SCRYPT:

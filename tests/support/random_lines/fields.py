@@ -93,7 +93,7 @@ def scrypt_cost(source: Source) -> ScryptCost:
 
 
 def cheap_cost(source: Source) -> ScryptCost:
-    """Returns numbers for a hash that takes almost no time."""
+    """Returns numbers for a cheap hash: N is at most 32."""
     return ScryptCost(source.between(1, 5), source.between(1, 3), source.between(1, 2))
 
 
