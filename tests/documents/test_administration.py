@@ -595,8 +595,8 @@ def test_an_account_whose_hash_is_over_the_budget_is_named(known_passwords: Foll
 
 
 def test_a_line_without_an_account_is_named(known_passwords: Followed) -> None:
-    numbers = re.search(r"without an account in .*: \[(.*)\]", known_passwords.errors)
-    assert numbers and numbers[1] == "6", known_passwords.lacks("a message about line 6")
+    is_named = "pwhash: list, line 6: no such name in " in known_passwords.errors
+    assert is_named, known_passwords.lacks("a message about line 6")
 
 
 def test_one_password_is_tried_for_every_account(machine: Machine) -> None:

@@ -30,6 +30,16 @@ def test_a_dash_audits_standard_input() -> None:
     assert done.status == 1 and b"1 line of standard input" in done.out, done
 
 
+@pytest.mark.parametrize("words", [(), ("--only-problems",)], ids=["all rows", "problems"])
+def test_a_quiet_audit_prints_rows_without_counts_and_advice(words: tuple[str, ...]) -> None:
+    save("fields", b"eve:\nbob:secret\n")
+    loud = pwhash("audit", *words, "fields")
+    quiet = pwhash("audit", "--quiet", *words, "fields")
+    rows, summary = loud.out.split(b"\n\n")
+    assert (quiet.status, quiet.out, quiet.err) == (1, rows + b"\n", b""), quiet
+    assert summary.startswith(b"2 lines of fields:") and b"set one" in summary, loud
+
+
 # ---- Findings
 
 

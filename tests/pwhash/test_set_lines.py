@@ -437,6 +437,14 @@ def test_a_new_name_is_shown_before_its_password_is_asked_for() -> None:
     assert read("passwords") == b"ann:x\n", terminal
 
 
+def test_no_line_is_said_to_be_added_for_a_password_over_the_budget() -> None:
+    save("passwords", b"ann:x\n")
+    done = pwhash("set", "passwords", "eve", stdin=b"x" * 169 + b"\n")
+    assert (done.status, read("passwords")) == (2, b"ann:x\n"), done
+    assert b"passwords has no eve yet: this would add a line." in done.err, done
+    assert b"over budget" in done.err and b"added" not in done.err, done
+
+
 def test_a_generated_password_is_shown_and_set() -> None:
     save("passwords", b"ann:x\n")
     terminal = at_terminal(("set", "--generate", *MD5CRYPT, "passwords", "ann"), [])

@@ -121,6 +121,11 @@ def fixture_service(cook: Cook, tmp_path: Path, monkeypatch: pytest.MonkeyPatch)
     return Service(names)
 
 
+def messages_in(caplog: pytest.LogCaptureFixture) -> list[str]:
+    """Returns what the pages have logged."""
+    return [record.getMessage() for record in caplog.records if record.name == "logins"]
+
+
 # ---- Registrations
 
 
@@ -197,8 +202,7 @@ def test_the_log_has_the_address_of_the_client(
     form = {"name": "ann", "password": "passw0rd"}
     service.client("192.0.2.1").browser.post("/login", data=form, headers=headers)
     address = ADDRESS if is_trusted else "192.0.2.1"
-    messages = [record.getMessage() for record in caplog.records if record.name == "logins"]
-    assert messages == [f"login failed: 'ann' from '{address}'"]
+    assert messages_in(caplog) == [f"login failed: 'ann' from '{address}'"]
 
 
 # ---- Sessions
@@ -334,6 +338,19 @@ def test_a_name_has_a_limit_and_other_names_are_free(strict: Service) -> None:
     assert strict.client(ELSEWHERE).log_in("zoe") == 200
 
 
+@pytest.mark.parametrize(
+    ("name", "shown"),
+    [pytest.param("ann", "'ann'", id="a user"), pytest.param("TopSecret", "None", id="nobody")],
+)
+def test_attempts_above_the_limit_are_logged(
+    strict: Service, caplog: pytest.LogCaptureFixture, name: str, shown: str
+) -> None:
+    answers = [strict.client(ELSEWHERE).log_in(name, "passw0rd") for _ in range(3)]
+    assert answers == [403, 403, 429]
+    assert messages_in(caplog)[2:] == [f"too many attempts: {shown} from '{ELSEWHERE}'"]
+    assert "TopSecret" not in caplog.text
+
+
 def test_an_unknown_name_has_the_same_limit(strict: Service) -> None:
     assert [strict.client().log_in("nobody", "x") for _ in range(3)] == [403, 403, 429]
 
@@ -369,7 +386,7 @@ def test_names_that_are_taken_count_as_attempts(strict: Service) -> None:
 
 
 def test_a_login_for_which_there_is_no_thread_does_not_count(
-    strict: Service, monkeypatch: pytest.MonkeyPatch
+    strict: Service, monkeypatch: pytest.MonkeyPatch, caplog: pytest.LogCaptureFixture
 ) -> None:
     names = strict.names["answer"].__globals__
 
@@ -382,5 +399,8 @@ def test_a_login_for_which_there_is_no_thread_does_not_count(
 
     with monkeypatch.context() as patch:
         patch.setitem(names, "logins", FullQueue())
-        assert [strict.client().log_in("zoe") for _ in range(4)] == [503] * 4
+        assert [strict.client(ELSEWHERE).log_in("zoe") for _ in range(4)] == [503] * 4
+        assert strict.client(ELSEWHERE).log_in("TopSecret") == 503
+    shown = ["'zoe'"] * 4 + ["None"]
+    assert messages_in(caplog) == [f"too many logins: {name} from '{ELSEWHERE}'" for name in shown]
     assert strict.client().log_in("zoe") == 200

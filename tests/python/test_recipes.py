@@ -420,13 +420,17 @@ def test_a_new_password_that_cannot_be_used_keeps_the_old_one(
     assert fields_of(database) == USERS
 
 
-def test_a_table_with_users_gets_a_key_for_each() -> None:
+@pytest.mark.parametrize("name_type", ["TEXT PRIMARY KEY", "TEXT"])
+def test_a_table_with_users_gets_a_key_for_each(names: dict[str, Any], name_type: str) -> None:
     old = sqlite3.connect(":memory:")
-    old.execute("CREATE TABLE users (name TEXT PRIMARY KEY, hash TEXT)")
+    old.execute(f"CREATE TABLE users (name {name_type}, hash TEXT)")
     old.executemany("INSERT INTO users VALUES (?, ?)", USERS.items())
     old.executescript(recipe("keys for a table with users", "sql"))
     assert fields_of(old) == USERS
     assert len(set(keys_of(old).values())) == len(USERS)
+    with pytest.raises(sqlite3.IntegrityError):
+        names["register"](old, "ann", "password")
+    assert fields_of(old) == USERS
 
 
 @pytest.mark.parametrize("change", ["!" + MD5, SHA512], ids=["a lock", "another change"])

@@ -58,7 +58,9 @@ def make_report(options: AuditOptions, console: Console) -> Report:
     """Returns the report that the options ask for."""
     if options.json:
         return JsonReport(console)
-    return WorstFirstReport(console) if options.only_problems else TableReport(console)
+    if options.only_problems:
+        return WorstFirstReport(console, options.quiet)
+    return TableReport(console, options.quiet)
 
 
 def is_comment_or_blank(data: bytes) -> bool:

@@ -25,7 +25,13 @@ from pwhash.options import CheckOptions
 from pwhash.part import Part, opened
 from pwhash.progress import Progress
 from pwhash.session import Session
-from pwhash.shown_names import MAX_NAMED, could_be_name, list_names, may_be_shown
+from pwhash.shown_names import (
+    MAX_NAMED,
+    could_be_name,
+    list_names,
+    may_be_shown,
+    shown_lines,
+)
 from pwhash.source import Source
 from pwhash.table import lines_of
 from pwhash.text import display_name, printable
@@ -124,36 +130,34 @@ class Checking:
 
     def report_odd_lines(self) -> None:
         """Reports odd lines in a list of passwords, or of names and stored fields."""
-        if self._with_another_field:
-            self._console.say(
-                "lines whose name has another field in an earlier line, by which services judge "
-                f"(the first {MAX_NAMED}): {self._with_another_field}."
-            )
-        if self._encoded:
-            self._report_encoded("lines", self._encoded)
+        name = self._source.name
+        self._report_lines(
+            name,
+            self._with_another_field,
+            "the name has another field in an earlier line, by which services judge",
+        )
+        self._report_lines(name, self._encoded, ENCODED)
         accounts = self._accounts
         if accounts is None:
             return
-        if accounts.encoded:
-            shadow = display_name(self._options.shadow or "")
-            self._report_encoded(f"lines of {shadow}", accounts.encoded)
-        if accounts.absent:
-            shadow = display_name(self._options.shadow or "")
-            self._console.say(
-                f"lines without an account in {shadow} (the first {MAX_NAMED}): {accounts.absent}."
-            )
-        if accounts.marked:
-            self._console.say(
-                "lines with a carriage return or a byte order mark in them (the first "
-                f"{MAX_NAMED}), of which --windows leaves out those that end or begin a line: "
-                f"{accounts.marked}."
-            )
+        shadow = display_name(self._options.shadow or "")
+        self._report_lines(shadow, accounts.encoded, ENCODED)
+        self._report_lines(name, accounts.absent, f"no such name in {shadow}")
+        self._report_lines(
+            name,
+            accounts.marked,
+            "a carriage return or a byte order mark. --windows leaves it out at the end or the "
+            "beginning of a line",
+        )
         if accounts.odd:
-            self._console.say(f"lines that aren't UTF-8, or have a zero byte: {accounts.odd:,}.")
+            self._console.say(
+                f"{name}: lines that aren't UTF-8, or have a zero byte: {accounts.odd:,}."
+            )
 
-    def _report_encoded(self, lines: str, numbers: List[int]) -> None:
-        """Names lines with a hash that no password can match before it is decoded."""
-        self._console.say(f"{lines} with {ENCODED}. The first {MAX_NAMED}: {numbers}.")
+    def _report_lines(self, file_name: str, numbers: Sequence[int], what: str) -> None:
+        """Says what is the matter with some lines of a file, if there are any."""
+        if numbers:
+            self._console.say(f"{shown_lines(file_name, numbers)}: {what}.")
 
     def _lines(self) -> LineGroups:
         lines = lines_of(self._source)
@@ -244,16 +248,17 @@ class Checking:
     def _describe(self, answer: Answer) -> str:
         """Says why a password isn't tried: it can't be hashed, or the account can't be checked."""
         line, refusal = answer.line, answer.refusal
+        where = f"{self._source.name}, line {line.number}"
         if refusal is None:
-            return f"line {line.number}: {line.refused_row}"
+            return f"{where}: {line.refused_row}"
         if refusal in PASSWORD_REFUSALS:
-            return f"line {line.number} isn't tried: {refusal.message}"
+            return f"{where}: not tried: {refusal.message}"
         fields = fields_to_check(line.data)
         # A password longer than this costs too much with a hash as costly as a new one, but may be
         # within the budget for names with cheaper hashes.
         longest = self._options.policy.longest or 0
         if refusal == OVER_BUDGET and fields is not None and len(fields.password) > longest:
-            return f"line {line.number} isn't tried for every name: {refusal.message}"
+            return f"{where}: not tried for every name: {refusal.message}"
         return f"{describe_account(line.data)} isn't checked: {refusal.message}"
 
 

@@ -632,7 +632,7 @@ def add_common(parser: Parser) -> None:
         "what a line may cost in bytes; by default a login's limit, in audits any new hash"
     )
     parser.value("--budget", type=parse_number, metavar="NUMBER", help=budget_text)
-    parser.flag("--quiet", "show no progress")
+    parser.flag("--quiet", "show no progress, and no advice")
 
 
 def read_policy(parser: Parser, parsed: argparse.Namespace) -> Policy:

@@ -1,4 +1,4 @@
-"""Prints what an audit finds: as a table with a summary, or as JSON."""
+"""Prints what an audit finds: as a table, perhaps with a summary, or as JSON."""
 
 from __future__ import annotations
 
@@ -47,10 +47,14 @@ class JsonReport(Report):
 
 
 class TableReport(Report):
-    """Prints a row for each line, in their order, and then what to do about each finding."""
+    """Prints a row for each line, in their order, and then what to do about each finding.
 
-    def __init__(self, console: Console) -> None:
+    A quiet one prints only the rows.
+    """
+
+    def __init__(self, console: Console, is_quiet: bool) -> None:
         super().__init__(console)
+        self._is_quiet = is_quiet
         self._has_colours = os.isatty(STDOUT) and not os.getenv("NO_COLOR")
         self._columns = output_width()
         self._pending = [self.heading()]
@@ -60,9 +64,12 @@ class TableReport(Report):
         self._pending = []
 
     def end(self, counts: Counter[Finding], source_name: str) -> None:
+        self.print(self._pending)
+        if self._is_quiet:
+            return
         total = sum(counts.values())
         lines = "line" if total == 1 else "lines"
-        self.print([*self._pending, f"\n{total:,} {lines} of {source_name}:"])
+        self.print([f"\n{total:,} {lines} of {source_name}:"])
         self.print(
             [self._counted(finding, counts[finding]) for finding in Finding if counts[finding]]
         )
@@ -104,8 +111,8 @@ class TableReport(Report):
 class WorstFirstReport(TableReport):
     """Prints the table with the worst findings first, or nothing if it would be empty."""
 
-    def __init__(self, console: Console) -> None:
-        super().__init__(console)
+    def __init__(self, console: Console, is_quiet: bool) -> None:
+        super().__init__(console, is_quiet)
         self._rows: List[Tuple[int, str]] = []
 
     def add(self, judgements: Sequence[Judgement]) -> None:

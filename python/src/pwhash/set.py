@@ -90,7 +90,7 @@ class Line:
             self.changed(file.content)  # raises if it can't be changed, and sets is_done_already
             entry = password_file.find(file.content, self._name, self._file)
         if entry is None:
-            self._say(f"{self._file} has no {self._user} yet: a line is added.")
+            self._say(f"{self._file} has no {self._user} yet: this would add a line.")
 
     def changed(self, content: bytes) -> bytes:
         """Returns the content of the file with the line changed."""

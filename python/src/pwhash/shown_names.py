@@ -67,6 +67,14 @@ def shown_line(file_name: str, number: int, name: bytes) -> str:
     return f"{where} ({printable(name.strip())})" if is_no_password(name) else where
 
 
+def shown_lines(file_name: str, numbers: Sequence[int]) -> str:
+    """Returns where lines are, as "list, lines 3, 12". The numbers are the first MAX_NAMED ones."""
+    if len(numbers) == 1:
+        return f"{file_name}, line {numbers[0]}"
+    where = f"{file_name}, lines {', '.join(map(str, numbers))}"
+    return f"{where} (the first {MAX_NAMED})" if len(numbers) == MAX_NAMED else where
+
+
 def list_names(names: Sequence[bytes]) -> str:
     """Returns names for a message, as "ann, bob and 5 more"; at most MAX_NAMED are shown."""
     shown = [printable(name) for name in names if may_be_shown(name)][:MAX_NAMED]
