@@ -620,6 +620,28 @@ def test_accounts_whose_password_is_listed_move_to_another_method(machine: Machi
     assert changed == ["ann"], followed.lacks(f"ann alone has changed, and not {changed}")
 
 
+@pytest.mark.needs("perl")
+@pytest.mark.parametrize(
+    ("lines", "printed"),
+    [
+        pytest.param(b"guess\npassword\r\n", ["ann:ok", "bob:ok"], id="a password for all"),
+        pytest.param(b":password", ["ann:ok", "bob:ok"], id="a colon in front"),
+        pytest.param(b"bob:x\nann:password\nbob:guess\n", ["ann:ok"], id="a password for one"),
+        pytest.param(b"eve:password\nkim:password\nguess\n", [], id="none"),
+    ],
+)
+def test_known_passwords_are_tried_for_hashes_of_other_schemes(
+    machine: Machine, lines: bytes, printed: list[str]
+) -> None:
+    fields = {"ann": YESCRYPT_OF_PASSWORD, "bob": BCRYPT_OF_PASSWORD}
+    locked = {"eve": LOCKED + YESCRYPT_OF_PASSWORD, "joe": "*"}
+    machine.set_accounts({**fields, **locked, "kim": OUTDATED, "tom": YESCRYPT})
+    machine.write("list", lines)
+    followed = machine.follow("known passwords by crypt")
+    assert followed.lines == printed, followed.lacks(f"{printed}")
+    assert followed.errors == "", followed.lacks("no messages")
+
+
 # ---- Which of several passwords a hash was made of
 
 WITH_BLANKS = " Grüße  ".encode()
