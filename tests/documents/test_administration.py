@@ -620,6 +620,28 @@ def test_accounts_whose_password_is_listed_move_to_another_method(machine: Machi
     assert changed == ["ann"], followed.lacks(f"ann alone has changed, and not {changed}")
 
 
+@pytest.mark.needs("perl")
+@pytest.mark.parametrize(
+    ("lines", "printed"),
+    [
+        pytest.param(b"guess\npassword\r\n", ["ann:ok", "bob:ok"], id="a password for all"),
+        pytest.param(b":password", ["ann:ok", "bob:ok"], id="a colon in front"),
+        pytest.param(b"bob:x\nann:password\nbob:guess\n", ["ann:ok"], id="a password for one"),
+        pytest.param(b"eve:password\nkim:password\nguess\n", [], id="none"),
+    ],
+)
+def test_known_passwords_are_tried_for_hashes_of_other_schemes(
+    machine: Machine, lines: bytes, printed: list[str]
+) -> None:
+    fields = {"ann": YESCRYPT_OF_PASSWORD, "bob": BCRYPT_OF_PASSWORD}
+    locked = {"eve": LOCKED + YESCRYPT_OF_PASSWORD, "joe": "*"}
+    machine.set_accounts({**fields, **locked, "kim": OUTDATED, "tom": YESCRYPT})
+    machine.write("list", lines)
+    followed = machine.follow("known passwords by crypt")
+    assert followed.lines == printed, followed.lacks(f"{printed}")
+    assert followed.errors == "", followed.lacks("no messages")
+
+
 # ---- Which of several passwords a hash was made of
 
 WITH_BLANKS = " Grüße  ".encode()
@@ -709,6 +731,74 @@ def test_cron_mails_nothing_if_no_account_needs_care(machine: Machine) -> None:
     followed = machine.follow("audit by cron", "text")
     assert followed.result.status == 0, followed.lacks("status 0")
     assert followed.result.stdout + followed.result.stderr == b"", followed.lacks("nothing printed")
+
+
+@dataclass(frozen=True)
+class DailyAudit:
+    """The job that audits and checks, and prints only what has changed."""
+
+    machine: Machine
+
+    def run(self) -> Followed:
+        """Runs the command of the recipe's file for cron."""
+        line = marked("audit of changes by cron", "text").code.splitlines()[-1]
+        result = run("sh", "-c", SCHEDULE.sub("", line), env=self.machine.environment)
+        return Followed(marked("audit of changes", "sh"), result)
+
+
+@pytest.fixture(name="daily")
+def fixture_daily(machine: Machine) -> DailyAudit:
+    machine.set_accounts({"ann": CURRENT, "kim": CURRENT})
+    machine.write("leaked", b"ann:guess\n")
+    script = marked("audit of changes", "sh").code
+    script = script.replace("/var/local/password-audit", shlex.quote(f"{machine.folder}/state"))
+    script = script.replace("/root/leaked", shlex.quote(f"{machine.folder}/leaked"))
+    script = script.replace("/etc/shadow", shlex.quote(str(machine.shadow)))
+    save_command(machine.folder.parent / "bin/password-audit", script)
+    return DailyAudit(machine)
+
+
+def assert_silent(ended: Followed) -> None:
+    assert ended.result.status == 0, ended.lacks("status 0")
+    assert ended.result.stdout + ended.result.stderr == b"", ended.lacks("nothing printed")
+
+
+def test_the_daily_audit_prints_nothing_if_all_is_well(daily: DailyAudit) -> None:
+    assert_silent(daily.run())
+    assert (daily.machine.folder / "state/last-success").exists()
+
+
+def test_the_daily_audit_prints_a_finding_once(daily: DailyAudit) -> None:
+    daily.machine.set_accounts({"ann": CURRENT, "kim": OUTDATED})
+    daily.machine.write("leaked", b"ann:password\nkim:guess\n")
+    ended = daily.run()
+    assert "ann:ok" in ended.lines, ended.lacks("the account with a leaked password")
+    is_named = "kim sha256crypt 1000 outdated" in ended.lines
+    assert is_named, ended.lacks("the account with an outdated hash")
+    assert_silent(daily.run())
+    assert (daily.machine.folder / "leaked").exists()
+
+
+def test_the_daily_audit_prints_that_nothing_is_found_any_more(daily: DailyAudit) -> None:
+    daily.machine.set_accounts({"ann": CURRENT, "kim": OUTDATED})
+    daily.run()
+    daily.machine.set_accounts({"ann": CURRENT, "kim": CURRENT})
+    ended = daily.run()
+    assert ended.lines == ["password-audit: this is found now:"], ended.lacks("a heading alone")
+    assert_silent(daily.run())
+
+
+@pytest.mark.parametrize("absent", ["leaked", "shadow"])
+def test_the_daily_audit_reports_a_part_that_fails_each_time(
+    daily: DailyAudit, absent: str
+) -> None:
+    path = daily.machine.shadow if absent == "shadow" else daily.machine.folder / "leaked"
+    path.unlink()
+    for _ in range(2):
+        ended = daily.run()
+        assert ended.result.status == 2, ended.lacks("status 2")
+        assert "password-audit: pwhash failed" in ended.errors, ended.lacks("a message")
+    assert not (daily.machine.folder / "state/last-success").exists()
 
 
 # ---- A disk that fills up at each command: no account gets a part of a hash
