@@ -9,8 +9,8 @@ concurrent.futures. In a thread, future.result() waits for the answer; in asynci
 
 1. The login waits for one of the threads, and runs there.
 2. If it returns True, that is the answer, at once.
-3. If it fails, the answer comes when the fixed time since submit() has passed. Meanwhile the
-   failure occupies no thread and no place in the queue, so the next login already runs.
+3. If it fails, the answer comes when the fixed time since submit() has passed. Meanwhile it
+   occupies none of these threads and no place in the queue, so other logins run.
 """
 from __future__ import annotations
 
