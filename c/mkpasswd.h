@@ -69,10 +69,10 @@
 extern "C" {
 #endif
 
-/* gcc and clang warn about an ignored result, and about a null pointer to an exported function that
- * takes none. Input isn't declared nonnull, since a compiler could then drop a caller's own test
- * for null after a call. gcc also warns if it can see that `out` has fewer bytes than
- * `out_size`. */
+/* gcc and clang warn about an ignored result, and about a null pointer that is passed to an
+ * exported function that doesn't accept null. Input isn't declared nonnull, since a compiler could
+ * then drop a caller's own test for null after a call. gcc also warns if it can see that `out` has
+ * fewer bytes than `out_size`. */
 #if defined __GNUC__ || defined __clang__
 #define MKPASSWD_EXPORT __attribute__((visibility("default"), nothrow))
 #define MKPASSWD_CHECKED __attribute__((warn_unused_result))

@@ -6,7 +6,8 @@
 // memory a hash needs: it asks the module.
 
 const METHODS = { __proto__: null, md5crypt: 1, sha256crypt: 5, sha512crypt: 6, scrypt: 7 };
-// Stands for an unknown method, and for rounds that aren't a 32-bit integer: the module refuses it.
+// Stands for an unknown method, which the module refuses, and for rounds that aren't a 32-bit
+// integer. As rounds, the module refuses it too, except where a method ignores or clamps rounds.
 const INVALID_NUMBER = 2 ** 32 - 1;
 const RECOMMENDED_BUDGET = 0;
 

@@ -152,7 +152,8 @@ function estimateOfRounds() {
     return `Takes ${describeExpectedTime(time)}${memory}.`;
 }
 
-// Shows how long the new hash will take, or what is wrong with its rounds.
+// Shows how long the new hash will take, and scrypt's memory, or a warning about its rounds or
+// method.
 function showEstimate() {
     showRoundsOfMethod();
     const warning = warningOfRounds();

@@ -46,7 +46,7 @@ def fixture_ours() -> Any:
 
 @pytest.fixture(scope="module", name="context")
 def fixture_context(cook: Cook) -> Any:
-    """The document's context."""
+    """The CryptContext that the recipe in docs/PYTHON.md makes."""
     return cook.follow("passlib")["context"]
 
 

@@ -34,7 +34,7 @@ def make_image(archive: Archive, file: Path, mask: str = "022", zone: str = "UTC
 
 @pytest.fixture(scope="module", name="image")
 def fixture_image(archive: Archive, tmp_path_factory: pytest.TempPathFactory) -> Path:
-    """The image."""
+    """The image that tools/image makes of the archive's program."""
     return make_image(archive, tmp_path_factory.mktemp("image") / "image.tar")
 
 
