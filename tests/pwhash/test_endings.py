@@ -22,6 +22,7 @@ from support.pwhash_runs import (
     hashed,
     in_namespace,
     least_seconds,
+    pwhash,
     read,
     save,
     shell,
@@ -297,3 +298,20 @@ def test_planted_modules_and_libraries_are_not_loaded(folder: Path) -> None:
     done = shell(script, "audit", "--json", "-", stdin=b"ann:!\n")
     assert done.status == 0 and b'"finding": "locked"' in done.out, done
     assert (folder / "json.py").exists()
+
+
+@pytest.mark.parametrize("variable", ["PYTHONEXECUTABLE", "__PYVENV_LAUNCHER__"])
+def test_no_modules_are_loaded_from_beside_a_file_that_a_variable_names(
+    variable: str, folder: Path, monkeypatch: pytest.MonkeyPatch
+) -> None:
+    """With python3._pth beside it, Python 3.11 looks for modules only in the folders named there.
+
+    It loads the package encodings first.
+    """
+    save("python3._pth", b".\n")
+    (folder / "encodings").mkdir()
+    save("encodings/__init__.py", b"import posix\nposix.mkdir('loaded')\n")
+    monkeypatch.setenv(variable, str(folder / "python3"))
+    done = pwhash("audit", "-", stdin=b"ann:!\n")
+    assert done.status == 0 and b"locked" in done.out, done
+    assert not (folder / "loaded").exists()

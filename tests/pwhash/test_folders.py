@@ -151,6 +151,21 @@ def test_a_group_that_is_also_another_users_is_not_the_group_of_one_user() -> No
     assert_refused(done, b"others can write its folder", "shared")
 
 
+@pytest.mark.needs("root")
+def test_a_group_whose_number_is_also_that_of_a_team_is_not_the_group_of_one_user() -> None:
+    """In the namespace, the group team has the number of daemon's group, and carl as a member."""
+    make_folder("shared", 0o775, DAEMON, DAEMON)
+    script = """
+        cp /etc/group groups
+        echo "team:x:1:carl" >> groups
+        mount --bind groups /etc/group
+        export SUDO_UID=1
+        exec "$@"
+    """
+    done = in_namespace(script, "file", *MD5CRYPT, "passwords", "-o", "shared/file")
+    assert_refused(done, b"others can write its folder", "shared")
+
+
 @pytest.mark.needs("root", "setfacl")
 def test_an_acl_that_lets_another_user_write_the_folder_is_noticed() -> None:
     ended(started_program("setfacl", "-m", "u:nobody:rwx", "own"))

@@ -105,21 +105,77 @@ def test_names_that_are_locked_in_target_stay_locked(mark: bytes) -> None:
         pytest.param(b"##bob:!\n", id="after two signs"),
         pytest.param(b"#\tbob:old\n", id="after a tab"),
         pytest.param(b"# left in May bob :old\n", id="after a remark"),
+        pytest.param(b"# left: bob:" + MD5CRYPT + b"\n", id="after a remark with a colon"),
+        pytest.param(b"#left,bob: " + MD5CRYPT + b"\n", id="after a comma"),
+        pytest.param(b"#-bob:" + MD5CRYPT + b"\n", id="after a minus"),
+        pytest.param(b"#//bob:" + MD5CRYPT + b"\n", id="after two slashes"),
+        pytest.param(b"#;bob:" + MD5CRYPT + b"\n", id="after a semicolon"),
+        pytest.param(b'#"bob":' + MD5CRYPT + b"\n", id="in quotes"),
+        pytest.param("#\u201ebob\u201c:x\n".encode(), id="in German quotes"),
+        pytest.param(b"#bob:" + MD5CRYPT, id="at the end of the file"),
     ],
 )
 def test_names_that_are_commented_out_in_target_stay_out(line: bytes) -> None:
+    comments = b"# our users: see the wiki\n" + line
     save("hashes", HASHES)
-    save("target", b"# our users: see the wiki\n" + OLD + line)
+    save("target", OLD + comments)
     done = pwhash(*INSTALL)
-    assert (done.status, read("target")) == (0, HASHES.replace(b"bob:", b"bob:!")), done
+    expected = comments.rstrip(b"\n") + b"\n" + HASHES.replace(b"bob:", b"bob:!")
+    assert (done.status, read("target")) == (0, expected), done
     assert b"stay locked, as they were: bob." in done.err, done
-    assert b"its comments were removed" in done.err, done
+
+
+@pytest.mark.parametrize(
+    ("comment", "names", "locked"),
+    [
+        pytest.param(b"#ann smith:", (b"ann smith", b"bob"), b"ann smith", id="a blank in it"),
+        pytest.param(b"#ann smith:", (b"smith", b"ann smith"), b"ann smith", id="only the longest"),
+        pytest.param(b"#j\xf6rg:", (b"j\xf6rg", b"bob"), b"j\xf6rg", id="not UTF-8"),
+        pytest.param(b"#_bob:", (b"bob", b"_bob"), b"_bob", id="a sign that it begins with"),
+        pytest.param(b"#bob:", (b"bob", b"ob", b"b"), b"bob", id="not in a word"),
+        pytest.param(b"#joann:", (b"ann", b"bob"), b"", id="at the end of another"),
+        pytest.param(b"#jo-ann:", (b"ann", b"bob"), b"", id="after a hyphen of another"),
+        pytest.param(b"#eva@example.org:", (b"example.org", b"org"), b"", id="a domain"),
+        pytest.param(b"# managed by bob", (b"bob", b"ann"), b"", id="prose without a colon"),
+    ],
+)
+def test_a_comment_locks_the_longest_name_that_stands_before_a_colon(
+    comment: bytes, names: tuple[bytes, ...], locked: bytes
+) -> None:
+    line = comment + (MD5CRYPT if comment.endswith(b":") else b"") + b"\n"
+    save("hashes", b"".join(name + b":" + MD5CRYPT + b"\n" for name in names))
+    save("target", line)
+    done = pwhash(*INSTALL)
+    marks = {name: b"!" if name == locked else b"" for name in names}
+    expected = [name + b":" + marks[name] + MD5CRYPT + b"\n" for name in names]
+    assert (done.status, read("target")) == (0, line + b"".join(expected)), done
+
+
+def test_what_follows_the_hash_of_a_commented_line_locks_nobody() -> None:
+    line = b"#eva:" + MD5CRYPT + b":1000:1000:bob:/home/eva\n"
+    save("hashes", b"bob:" + MD5CRYPT + b"\n")
+    save("target", line)
+    assert pwhash(*INSTALL).status == 0
+    assert read("target") == line + b"bob:" + MD5CRYPT + b"\n"
+
+
+@pytest.mark.parametrize("words", [(), (ACCEPT_REMOVALS,)], ids=["plain", "with removals"])
+def test_a_commented_out_name_stays_out_after_a_file_without_it(words: tuple[str, ...]) -> None:
+    line, bob = b"#ann:" + MD5CRYPT + b"\n", b"bob:" + MD5CRYPT + b"\n"
+    save("target", bob + line)
+    save("hashes", bob)
+    done = pwhash(*INSTALL, *words)
+    assert (done.status, read("target")) == (0, line + bob), done
+    save("hashes", bob + b"ann:" + MD5CRYPT + b"\n")
+    done = pwhash(*INSTALL, *words)
+    assert (done.status, read("target")) == (0, line + bob + b"ann:!" + MD5CRYPT + b"\n"), done
+    assert b"stay locked, as they were: ann." in done.err, done
 
 
 def test_a_comment_beside_a_line_of_the_same_name_locks_nobody() -> None:
     save("hashes", HASHES)
     save("target", b"#bob:old\nbob:" + MD5CRYPT + b"\n")
-    assert (pwhash(*INSTALL).status, read("target")) == (0, HASHES)
+    assert (pwhash(*INSTALL).status, read("target")) == (0, b"#bob:old\n" + HASHES)
 
 
 def test_names_that_would_disappear_are_named_and_removed_only_on_demand() -> None:
@@ -513,19 +569,19 @@ def test_a_file_that_holds_no_passwords_is_not_replaced(content: bytes, reason: 
 
 
 @pytest.mark.parametrize(
-    "content",
+    ("content", "kept"),
     [
-        pytest.param(b"", id="none"),
-        pytest.param(b"\n", id="a blank line"),
-        pytest.param(b"# none yet\n", id="a comment"),
-        pytest.param(OLD + b" \n", id="a line, and a blank one"),
+        pytest.param(b"", b"", id="none"),
+        pytest.param(b"\n", b"", id="a blank line"),
+        pytest.param(b"# none yet\n", b"# none yet\n", id="a comment"),
+        pytest.param(OLD + b" \n", b"", id="a line, and a blank one"),
     ],
 )
-def test_a_password_file_of_few_lines_is_replaced(content: bytes) -> None:
+def test_a_password_file_of_few_lines_is_replaced(content: bytes, kept: bytes) -> None:
     save("hashes", HASHES)
     save("target", content)
     done = pwhash(*INSTALL)
-    assert (done.status, read("target")) == (0, HASHES), done
+    assert (done.status, read("target")) == (0, kept + HASHES), done
 
 
 def test_a_copy_of_shadow_is_refused_by_its_nine_fields() -> None:

@@ -4,6 +4,7 @@ from __future__ import annotations
 import os
 import pathlib
 import re
+import select
 import shlex
 import signal
 import termios
@@ -29,6 +30,7 @@ with needed("python3-pexpect"):
 
 HALF_ERASED = b"TopSecret\xc3\xbc\x7f1"  # some terminals erase only one byte of the character
 CTRL_C, CTRL_D, CTRL_Z, CTRL_BACKSLASH = b"\x03", b"\x04", b"\x1a", b"\x1c"
+CTRL_Q, CTRL_S = b"\x11", b"\x13"  # let the terminal continue and stop its output
 LOCAL_MODES = 3  # their place in what tcgetattr returns
 
 
@@ -246,6 +248,39 @@ def test_a_stopped_prompt_can_be_ended(monkeypatch: pytest.MonkeyPatch) -> None:
     process = int(read("job"))
     wait_for(lambda: state_of(process) == "")
     assert shows_keys(child.child_fd)
+    child.close()
+
+
+def takes_output(process: int) -> bool:
+    """Returns whether a process can write to its terminal, whose output Ctrl-S may have stopped."""
+    with open(f"/proc/{process}/fd/0", "wb", buffering=0) as terminal:
+        return bool(select.select([], [terminal], [], 0)[1])
+
+
+@pytest.mark.parametrize("keys", [b"", b"secret\r"], ids=["at the prompt", "after a password"])
+@pytest.mark.parametrize("kill", [signal.SIGTERM, signal.SIGHUP, signal.SIGQUIT])
+def test_a_signal_ends_a_prompt_whose_terminal_is_stopped(kill: int, keys: bytes) -> None:
+    child = pexpect.spawn(PWHASH, list(MD5CRYPT), timeout=60)
+    child.expect_exact("Password: ")
+    child.send(CTRL_S)
+    wait_for(lambda: not takes_output(child.pid))
+    child.send(keys)
+    child.kill(kill)
+    wait_for(lambda: state_of(child.pid) in ("Z", ""))
+    assert shows_keys(child.child_fd)
+    child.close()
+    assert child.signalstatus == kill, child
+
+
+def test_a_prompt_continues_after_its_terminal_was_stopped() -> None:
+    child = pexpect.spawn(PWHASH, list(MD5CRYPT), timeout=60)
+    child.expect_exact("Password: ")
+    child.send(CTRL_S)
+    wait_for(lambda: not takes_output(child.pid))
+    child.send(b"secret\r" + CTRL_Q)
+    child.expect_exact("Again: ")
+    child.send(b"secret\r")
+    child.expect_exact(hashed(b"secret"))
     child.close()
 
 

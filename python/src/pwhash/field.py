@@ -162,6 +162,13 @@ def field_of(data: bytes) -> Field:
     return Field(*found.groups())
 
 
+def is_of_password_file(found: Field) -> bool:
+    """Returns whether a field has a hash, whole or damaged, a prefix of one, or a mark."""
+    if found.is_locked or found.prefix:
+        return True
+    return mkpasswd.describe(found.stored).state in (*HASHES, *DAMAGED)
+
+
 def is_encoded(stored: bytes) -> bool:
     """Returns whether this is the Base64 of a field with a prefix such as {SSHA}, or its beginning.
 

@@ -15,7 +15,7 @@ import os
 import pwd
 import stat
 from collections.abc import Iterator
-from typing import FrozenSet, NamedTuple, Optional
+from typing import FrozenSet, NamedTuple, Optional, Set
 
 from pwhash.errors import UsageError, errors_named
 from pwhash.text import display_name
@@ -195,8 +195,17 @@ def is_of_one_user(folder: int, status: os.stat_result) -> bool:
     except KeyError:
         return False
     is_own_group = owner.pw_gid == group.gr_gid and owner.pw_name == group.gr_name
-    others = {each.pw_name for each in pwd.getpwall() if each.pw_gid == group.gr_gid}
-    return is_own_group and others.union(group.gr_mem) <= {owner.pw_name}
+    return is_own_group and members_of(group) <= {owner.pw_name}
+
+
+def members_of(group: grp.struct_group) -> Set[str]:
+    """Returns the members of a group, and of others with its number, which give the same rights."""
+    members = {each.pw_name for each in pwd.getpwall() if each.pw_gid == group.gr_gid}
+    # A source of groups that lists none, such as LDAP's, still finds this one by its number.
+    for each in (group, *grp.getgrall()):
+        if each.gr_gid == group.gr_gid:
+            members.update(each.gr_mem)
+    return members
 
 
 def has_acl(folder: int) -> bool:

@@ -110,7 +110,10 @@ def refuse_unfit(
 
 
 class Content:
-    """The new content of TARGET. Names that are locked in it stay locked."""
+    """The new content of TARGET. Names that are locked in it stay locked, and comments stay.
+
+    A comment may be the line of a name that HASHES lacks now, and that a later HASHES has again.
+    """
 
     def __init__(self, file_name: str, hashes: HashesFile, accepts_removals: bool) -> None:
         self.sentences: List[str] = []
@@ -125,17 +128,16 @@ class Content:
 
     def changed(self, content: bytes) -> bytes:
         """Returns the content that replaces the present one."""
-        target = Target(content, self._file_name)
+        target = Target(content, self._file_name, self._hashes.lines)
         target.refuse_entrances(self._hashes.lines)
         if not self._accepts_removals:
             target.refuse_removals(self._hashes.lines)
         locked = [line.name for line in self._hashes.lines if stays_locked(line, target)]
         self.sentences = [f"{self._file_name} has {len(self._hashes.lines):,} names now."]
-        if target.has_comments:
-            self.sentences.append("its comments were removed.")
         self._note("stay locked, as they were", locked)
         self._note("aren't in HASHES, and were removed", target.removed(self._hashes.lines))
-        return b"".join(line_for(line, target) + b"\n" for line in self._hashes.lines)
+        lines = [line_for(line, target) for line in self._hashes.lines]
+        return b"".join(line + b"\n" for line in target.comments + lines)
 
     def _note(self, what: str, names: List[bytes]) -> None:
         if names:

@@ -134,7 +134,7 @@ def hide_again(terminal: Terminal) -> None:
     So it waits until it is in the foreground.
     """
     while is_in_background(terminal.fd):
-        if signal.sigpending().intersection(terminal.ending):
+        if has_ending_signal(terminal):
             return  # read_line ends the run
         time.sleep(0.01)
     hide(terminal)
@@ -178,23 +178,46 @@ def restore(terminal: Terminal) -> None:
 
 def ask(terminal: Terminal, prompt: bytes) -> bytes:
     """Shows a prompt, and returns what is typed there."""
-    write_to_terminal(terminal.fd, prompt)
+    write_to_terminal(terminal, prompt)
     try:
         line = read_line(terminal)
         while line is None:  # Ctrl-Z stopped the process, and fg continued it
-            write_to_terminal(terminal.fd, prompt)
+            write_to_terminal(terminal, prompt)
             line = read_line(terminal)
         return line
     finally:
-        write_to_terminal(terminal.fd, b"\n")  # Return isn't shown
+        write_to_terminal(terminal, b"\n")  # Return isn't shown
 
 
-def write_to_terminal(fd: int, text: bytes) -> None:
+def write_to_terminal(terminal: Terminal, text: bytes) -> None:
     """Writes to the terminal, or to standard error if it is open for reading only."""
     try:
-        os.write(fd, text)
+        write_once_possible(terminal, terminal.fd, text)
     except OSError:
-        os.write(STDERR, text)
+        write_once_possible(terminal, STDERR, text)
+
+
+def write_once_possible(terminal: Terminal, fd: int, text: bytes) -> None:
+    """Writes as soon as this blocks no longer, as it does after Ctrl-S, until Ctrl-Q.
+
+    Stops the run if a signal that ends it is pending meanwhile.
+    """
+    while not select.select([], [fd], [], POLL_SECONDS)[1]:
+        if has_ending_signal(terminal):
+            # Otherwise a serial line would wait for its output when its settings are restored.
+            termios.tcflush(terminal.fd, termios.TCOFLUSH)
+            raise ended_by_signal()
+    os.write(fd, text)
+
+
+def has_ending_signal(terminal: Terminal) -> bool:
+    """Returns whether a signal is pending that ends the run."""
+    return bool(signal.sigpending().intersection(terminal.ending))
+
+
+def ended_by_signal() -> Stop:
+    """Returns the error for a pending signal, which ends the process once it is unblocked."""
+    return Stop("a signal ended the run.")
 
 
 def read_line(terminal: Terminal) -> Optional[bytes]:
@@ -205,10 +228,9 @@ def read_line(terminal: Terminal) -> Optional[bytes]:
     line = b""
     while not line.endswith(b"\n"):
         while not select.select([terminal.fd], [], [], POLL_SECONDS)[0]:
-            pending = signal.sigpending()
-            if pending.intersection(terminal.ending):
-                raise Stop("a signal ended the run.")
-            if signal.SIGTSTP in pending:
+            if has_ending_signal(terminal):
+                raise ended_by_signal()
+            if signal.SIGTSTP in signal.sigpending():
                 stop(terminal)
                 return None
         piece = os.read(terminal.fd, PIECE)

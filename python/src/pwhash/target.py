@@ -7,13 +7,12 @@ no password may log in, such as x, may have been written to keep a name out.
 from __future__ import annotations
 
 from collections.abc import Iterable
-from typing import Dict, List, NamedTuple, Set
-
-import mkpasswd
+from typing import Dict, List, NamedTuple
 
 from pwhash import field, password_file, system_files
+from pwhash.commented import commented_out, is_comment
 from pwhash.errors import ProblemsFound, UsageError
-from pwhash.field import DAMAGED, HASHES, Field
+from pwhash.field import Field
 from pwhash.hashes_file import Hash
 from pwhash.shown_names import list_names
 
@@ -30,14 +29,15 @@ class OldLine(NamedTuple):
 class Target:
     """The content of TARGET. Refuses a file that isn't a password file."""
 
-    def __init__(self, content: bytes, file_name: str) -> None:
+    def __init__(self, content: bytes, file_name: str, hashes: Iterable[Hash]) -> None:
         system_files.refuse_shape(content, file_name)
         refuse_odd_line(content, file_name)
         lines = content.split(b"\n")
         self.lines = read_lines(lines)
-        self.has_comments = any(line.startswith(b"#") for line in lines)
+        self.comments = [line for line in lines if is_comment(line)]
         self._file_name = file_name
-        self._commented_out = read_commented_names(lines) - self.lines.keys()
+        names = {line.name for line in hashes}.union(self.lines)
+        self._commented_out = commented_out(self.comments, names) - self.lines.keys()
         self._refuse_other_file()
 
     def locks(self, name: bytes) -> bool:
@@ -86,7 +86,7 @@ class Target:
     def _refuse_other_file(self) -> None:
         """Refuses a file in which no line has a hash, a prefix of one, or a mark."""
         fields = [line.field for line in self.lines.values()]
-        if fields and not any(is_of_password_file(each) for each in fields):
+        if fields and not any(field.is_of_password_file(each) for each in fields):
             raise UsageError(
                 f"{self._file_name} has no line with a hash. Is it another file? {REMOVE_FIRST}"
             )
@@ -106,31 +106,10 @@ def read_lines(lines: Iterable[bytes]) -> Dict[bytes, OldLine]:
     found: Dict[bytes, OldLine] = {}
     for line in lines:
         name, colon, rest = line.partition(b":")
-        if not colon or not name or name.startswith(b"#"):
+        if not colon or not name or is_comment(line):
             continue
         stored, colon, others = rest.partition(b":")
         new = OldLine(field.field_of(stored), colon + others)
         if name not in found or new.field.is_surely_locked:
             found[name] = new
     return found
-
-
-def read_commented_names(lines: Iterable[bytes]) -> Set[bytes]:
-    """Returns the names in commented-out lines: somebody may keep a user out that way.
-
-    A name is the last word before the first colon, as in "#ann:" and "# left ann:".
-    """
-    names: Set[bytes] = set()
-    for line in lines:
-        if line.startswith(b"#"):
-            text = line.decode(errors="surrogateescape").lstrip("#")
-            words = text.partition(":")[0].split()
-            names.update(word.encode(errors="surrogateescape") for word in words[-1:])
-    return names
-
-
-def is_of_password_file(found: Field) -> bool:
-    """Returns whether a field has a hash, whole or damaged, a prefix of one, or a mark."""
-    if found.is_locked or found.prefix:
-        return True
-    return mkpasswd.describe(found.stored).state in (*HASHES, *DAMAGED)
