@@ -113,11 +113,24 @@ def test_a_table_joined_to_itself_lacks_a_line_feed(table: bytes) -> None:
     assert b"a line feed is missing" in done.err and b"secret" not in done.err, done
 
 
-@pytest.mark.parametrize("heading", [b"name:password", b"Benutzer:Kennwort", b"E-Mail:PASSWORD"])
+@pytest.mark.parametrize(
+    "heading",
+    [
+        *(b"name:password", b"Benutzer:Kennwort", b"E-Mail:PASSWORD"),
+        *(b"Login:Pwd", b"user:pass", b"name:pw", b"username:pin", b"Login:Code", b"user:secret"),
+        *(b"password:name", b"PIN:Login", b"pass:user"),
+    ],
+)
 def test_a_heading_behind_a_password_is_doubtful(heading: bytes) -> None:
-    done = pwhash("file", *MD5CRYPT, stdin=b"ann:pw1\ncid:secret" + heading + b"\nbob:pw2\n")
+    done = pwhash("file", *MD5CRYPT, stdin=b"ann:pw1\ncid:s3cret" + heading + b"\nbob:pw2\n")
     assert (done.status, done.out, lines_named_in(done.err)) == (1, ANN + BOB, [2]), done
-    assert b"secret" not in done.err, done
+    assert b"s3cret" not in done.err, done
+
+
+@pytest.mark.parametrize("password", [b"a:pw", b"pin:code", b"myname:", b"my:username", b":pass"])
+def test_a_password_with_a_colon_is_hashed_if_it_ends_in_no_heading(password: bytes) -> None:
+    done = pwhash("file", *MD5CRYPT, stdin=b"ann:" + password + b"\n")
+    assert (done.status, done.out, done.err) == (0, b"ann:" + hashed(password) + b"\n", b""), done
 
 
 @pytest.mark.parametrize(
