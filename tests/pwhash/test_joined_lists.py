@@ -12,6 +12,7 @@ from support.pwhash_runs import (
     hashed,
     lines_named_in,
     pwhash,
+    save,
 )
 
 
@@ -112,11 +113,45 @@ def test_a_table_joined_to_itself_lacks_a_line_feed(table: bytes) -> None:
     assert b"a line feed is missing" in done.err and b"secret" not in done.err, done
 
 
-@pytest.mark.parametrize("heading", [b"name:password", b"Benutzer:Kennwort", b"E-Mail:PASSWORD"])
+@pytest.mark.parametrize(
+    "heading",
+    [
+        *(b"name:password", b"Benutzer:Kennwort", b"E-Mail:PASSWORD"),
+        *(b"Login:Pwd", b"user:pass", b"name:pw", b"username:pin", b"Login:Code", b"user:secret"),
+        *(b"password:name", b"PIN:Login", b"pass:user"),
+    ],
+)
 def test_a_heading_behind_a_password_is_doubtful(heading: bytes) -> None:
-    done = pwhash("file", *MD5CRYPT, stdin=b"ann:pw1\ncid:secret" + heading + b"\nbob:pw2\n")
+    done = pwhash("file", *MD5CRYPT, stdin=b"ann:pw1\ncid:s3cret" + heading + b"\nbob:pw2\n")
     assert (done.status, done.out, lines_named_in(done.err)) == (1, ANN + BOB, [2]), done
-    assert b"secret" not in done.err, done
+    assert b"s3cret" not in done.err, done
+
+
+@pytest.mark.parametrize("password", [b"a:pw", b"pin:code", b"myname:", b"my:username", b":pass"])
+def test_a_password_with_a_colon_is_hashed_if_it_ends_in_no_heading(password: bytes) -> None:
+    done = pwhash("file", *MD5CRYPT, stdin=b"ann:" + password + b"\n")
+    assert (done.status, done.out, done.err) == (0, b"ann:" + hashed(password) + b"\n", b""), done
+
+
+@pytest.mark.parametrize(
+    "heading",
+    [
+        pytest.param(b"name\n", id="alike"),
+        pytest.param(b"Name\r\n", id="a capital"),
+        pytest.param(BOM + b"name\n", id="a byte order mark"),
+    ],
+)
+def test_a_heading_behind_a_row_of_a_single_column_is_refused(heading: bytes) -> None:
+    save("names", b"name\nbob\nann" + heading + b"carl\n")
+    done = pwhash("file", "names", "--csv", "--generate", "--look")
+    assert (done.status, lines_named_in(done.err)) == (1, [3]), done
+    assert b"a heading at its end" in done.err, done
+
+
+def test_a_name_that_ends_unlike_the_heading_of_a_single_column_gets_a_password() -> None:
+    save("names", b"login\nsurname\nloginuser\n")
+    done = pwhash("file", "names", "--csv", "--columns", "login", "--generate", "--look")
+    assert (done.status, done.err) == (0, b""), done
 
 
 def test_a_password_that_ends_like_a_heading_is_hashed() -> None:

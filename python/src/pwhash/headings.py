@@ -24,7 +24,7 @@ PASSWORDS = frozenset(
     ]
 )
 # Headings that are passwords or names too often to be doubtful by themselves.
-SHORT_PASSWORDS = frozenset(["pass", "pwd", "pw"])
+SHORT_PASSWORDS = frozenset(["pass", "pwd", "pw", "pin", "code", "secret"])
 LOGIN_NAME = re.compile(rb"[a-z_\x80-\xff][a-z0-9_.\x80-\xff-]*")
 
 
@@ -61,9 +61,12 @@ def is_heading_of_passwords(name: bytes, password: bytes) -> bool:
 def ends_in_heading(password: bytes) -> bool:
     """Returns whether a password ends in the heading of another list, as in pw1name:password.
 
-    This happens when lists are joined without a line feed between them.
+    This happens when lists are joined without a line feed between them. The other list may have its
+    passwords first.
     """
     if b":" not in password:
         return False
     before, _, last = fold(password).rpartition(":")
-    return last in PASSWORDS and before.endswith(tuple(NAMES))
+    if is_of_passwords(last):
+        return before.endswith(tuple(NAMES))
+    return last in NAMES and before.endswith((*PASSWORDS, *SHORT_PASSWORDS))

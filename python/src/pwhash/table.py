@@ -337,7 +337,7 @@ def is_joined_with_heading(fields: Row, columns: Columns) -> bool:
     `cat` joins tables like this if the last line of the first one has no line feed.
     """
     own = columns.headings
-    if len(fields) > 1 and fields[1:] == own[1:] and fields[0].endswith(own[0]):
+    if own and fields[1:] == own[1:] and fields[0].endswith(own[0]):
         return True
     joined = len(fields) - 1  # the field that has a value and a heading in it
     while joined > 0 and is_heading(fields[joined], own):
