@@ -106,6 +106,7 @@ def test_names_that_are_locked_in_target_stay_locked(mark: bytes) -> None:
         pytest.param(b"#\tbob:old\n", id="after a tab"),
         pytest.param(b"# left in May bob :old\n", id="after a remark"),
         pytest.param(b"# left: bob:" + MD5CRYPT + b"\n", id="after a remark with a colon"),
+        pytest.param(b"# out: !!! bob:" + MD5CRYPT + b"\n", id="after marks in a remark"),
         pytest.param(b"#left,bob: " + MD5CRYPT + b"\n", id="after a comma"),
         pytest.param(b"#-bob:" + MD5CRYPT + b"\n", id="after a minus"),
         pytest.param(b"#//bob:" + MD5CRYPT + b"\n", id="after two slashes"),

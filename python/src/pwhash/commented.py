@@ -10,7 +10,7 @@ import re
 from collections.abc import Container, Iterable, Iterator
 from typing import List, Optional, Set
 
-from pwhash.field import field_of, is_of_password_file
+from pwhash.field import field_of
 from pwhash.lines import LONGEST_NAME
 
 # What may be inside a name: "ann" isn't the name in "#joann:" or "#jo-ann:". This includes
@@ -48,7 +48,7 @@ def texts_before_colons(comment: bytes) -> List[str]:
     texts: List[str] = []
     for text, behind in zip(parts, parts[1:]):
         texts.append(text.decode(errors="surrogateescape"))
-        if is_of_password_file(field_of(behind.strip())):
+        if field_of(behind.strip()).unlocked().looks_whole:
             break
     return texts
 
