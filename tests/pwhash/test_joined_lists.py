@@ -39,6 +39,10 @@ def test_the_heading_of_a_joined_table_is_not_a_user(
         pytest.param(b"name,password", b"password,name", id="swapped"),
         pytest.param(b"name,password,mail", b"mail,name,password", id="moved"),
         pytest.param(b"name,password", b"Passwort,Benutzername", id="swapped, in German"),
+        pytest.param(b"name,password", b"pin,login", id="swapped, a number"),
+        pytest.param(b"name,password", b"secret,user", id="swapped, another word"),
+        pytest.param(b"name,password", b"Code,Kennung", id="swapped, a German name"),
+        pytest.param(b"name,password,room", b"PIN,Login,Raum", id="swapped, and a third"),
     ],
 )
 def test_a_joined_table_with_other_columns_ends_the_run(first: bytes, second: bytes) -> None:

@@ -170,3 +170,12 @@ def test_passwords_without_a_name_are_tried_for_all_names() -> None:
     done = pwhash("check", "--shadow", "shadow", stdin=b"a\npassword\nb\n")
     assert (done.status, done.out) == (1, b"ann:no\nann:ok\nann:no\n"), done
     assert done.err == b"pwhash: yes isn't checked: unknown scheme\n", done
+
+
+@pytest.mark.parametrize(("words", "hints"), [((), 1), (("--windows",), 0)])
+def test_a_carriage_return_is_named_without_a_file_of_fields(
+    words: tuple[str, ...], hints: int
+) -> None:
+    done = pwhash("check", *words, stdin=b"ann:" + MD5.encode() + b":password\r\n")
+    assert done.out == (b"ann:no\n" if hints else b"ann:ok\n"), done
+    assert done.err.count(b"line 1: a carriage return") == hints, done

@@ -37,25 +37,20 @@ def test_a_file_with_refused_or_doubtful_lines_is_not_hashed() -> None:
 
 
 @pytest.mark.parametrize(
-    ("number", "name", "reason"),
+    ("number", "reason"),
     [
-        pytest.param(2, "bob", "empty", id="an empty password"),
-        pytest.param(3, "", "no name", id="no name"),
-        pytest.param(4, "", "no password field", id="no colon"),
-        pytest.param(5, "carl", "carriage return", id="a carriage return"),
-        pytest.param(6, "ann", "after line 1", id="a repeated name"),
-        pytest.param(7, "", "UTF-8", id="a name that is not UTF-8"),
-        pytest.param(8, "long", "over budget", id="a password that costs too much"),
+        pytest.param(2, "empty", id="an empty password"),
+        pytest.param(3, "no name", id="no name"),
+        pytest.param(4, "no password field", id="no colon"),
+        pytest.param(5, "carriage return", id="a carriage return"),
+        pytest.param(6, "after line 1", id="a repeated name"),
+        pytest.param(7, "UTF-8", id="a name that is not UTF-8"),
+        pytest.param(8, "over budget", id="a password that costs too much"),
     ],
 )
-def test_each_refused_or_doubtful_line_is_named_with_its_reason(
-    number: int, name: str, reason: str
-) -> None:
+def test_each_refused_or_doubtful_line_is_named_with_its_reason(number: int, reason: str) -> None:
     messages = looked_at().err.decode().split("\n")
-    is_named = any(
-        f"line {number}" in line and name in line and reason in line for line in messages
-    )
-    assert is_named, messages
+    assert any(f"line {number}:" in line and reason in line for line in messages), messages
 
 
 def test_20_lines_with_the_same_problem_are_named() -> None:

@@ -111,3 +111,55 @@ def test_a_password_in_front_of_a_known_name_is_not_shown() -> None:
     save("known", b"ann:x\n")
     done = pwhash("file", "--skip-unknown", "known", save("lines", b"TopSecret:ann\n"))
     assert b"line 1: not in known" in done.err and b"TopSecret" not in done.err, done
+
+
+SWAPPED = [
+    pytest.param(
+        b"first,login,password\nBob,sunshine,\n",
+        ("--csv", "--columns", "login,password", "--look"),
+        b"line 2: an empty password",
+        id="a row that moved by a column",
+    ),
+    pytest.param(
+        b"name,password\nsunshine,ann1\n",
+        ("--csv", "--skip-unknown", "/etc/passwd"),
+        b"line 2: not in /etc/passwd",
+        id="an unknown name of a table",
+    ),
+    pytest.param(
+        b"class,name\nsunshine,\n5a,sunshine\n",
+        ("--csv", "--generate", "--look", "--skip-unknown", "/etc/passwd"),
+        b"line 3: not in /etc/passwd",
+        id="a row of a table of names",
+    ),
+    pytest.param(
+        b"sunshine:ann1\nbob:pw9\n",
+        ("--skip-unknown", "/etc/passwd"),
+        b"line 1: not in /etc/passwd",
+        id="an unknown name of a list",
+    ),
+    pytest.param(
+        b"sunshine:ann\nsunshine:bob\n", (), b"line 2: the name again", id="a repeated name"
+    ),
+    pytest.param(b"sunshine:ann \n", (), b"line 1: a blank", id="a doubtful line"),
+]
+
+
+@pytest.mark.parametrize(("data", "words", "message"), SWAPPED)
+def test_a_word_that_may_be_a_password_is_not_shown_as_a_name(
+    data: bytes, words: tuple[str, ...], message: bytes
+) -> None:
+    done = pwhash("file", save("lines", data), *words)
+    assert message in done.err and b"sunshine" not in done.err, done
+
+
+@pytest.mark.parametrize(
+    ("data", "words", "message"),
+    [
+        pytest.param(b"root:\n", (), b"line 1 (root): an empty password", id="of the machine"),
+        pytest.param(b"ann\nann\n", ("--generate",), b"line 2 (ann): the name again", id="alone"),
+    ],
+)
+def test_a_sure_name_is_shown(data: bytes, words: tuple[str, ...], message: bytes) -> None:
+    done = pwhash("file", save("lines", data), *words, "--look")
+    assert done.status == 1 and message in done.err, done

@@ -90,7 +90,12 @@ class Accounts:
 
     def _note(self, line: Line) -> None:
         data = line.data
-        if (b"\r" in data or BYTE_ORDER_MARK in data) and len(self.marked) < MAX_NAMED:
+        if has_marks(data) and len(self.marked) < MAX_NAMED:
             self.marked.append(line.number)
         if b"\0" in data or not is_utf8(data):
             self.odd += 1
+
+
+def has_marks(data: bytes) -> bool:
+    """Returns whether a line has a carriage return or a byte order mark."""
+    return b"\r" in data or BYTE_ORDER_MARK in data

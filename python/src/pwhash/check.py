@@ -6,7 +6,7 @@ from collections.abc import Sequence
 from typing import List, NamedTuple, Optional, Set, Union
 
 from pwhash import library
-from pwhash.accounts import Accounts
+from pwhash.accounts import Accounts, has_marks
 from pwhash.answers import Answer, Writer, refusal_answer, refused_row_answer
 from pwhash.field import ENCODED, is_encoded
 from pwhash.library import OVER_BUDGET, PASSWORD_TOO_LONG, PASSWORD_ZERO_BYTE, Refusal, Verdict
@@ -37,6 +37,10 @@ from pwhash.table import lines_of
 from pwhash.text import display_name, printable
 from pwhash.workers import Memory, Workers
 
+MARKS = (
+    "a carriage return or a byte order mark. --windows leaves it out at the end or the beginning of "
+    "a line"
+)
 # Refusals that apply to a password whatever the account.
 PASSWORD_REFUSALS = (LINE_TOO_LONG, PASSWORD_TOO_LONG, PASSWORD_ZERO_BYTE)
 
@@ -85,6 +89,7 @@ class Checking:
         self._first_fields = FirstFields()
         self._with_another_field: List[int] = []  # numbers of lines
         self._encoded: List[int] = []  # those with a hash in Base64
+        self._marked: List[int] = []  # those with a carriage return or a byte order mark
         self._printed: Set[str] = set()
         self._renewed: Set[bytes] = set()  # the names that have got a new hash
         self._has_bad_line = False
@@ -138,18 +143,14 @@ class Checking:
             "the name has another field in an earlier line, by which services judge",
         )
         self._report_lines(name, self._encoded, ENCODED)
+        self._report_lines(name, self._marked, MARKS)
         accounts = self._accounts
         if accounts is None:
             return
         shadow = display_name(self._options.shadow or "")
         self._report_lines(shadow, accounts.encoded, ENCODED)
         self._report_lines(name, accounts.absent, f"no such name in {shadow}")
-        self._report_lines(
-            name,
-            accounts.marked,
-            "a carriage return or a byte order mark. --windows leaves it out at the end or the "
-            "beginning of a line",
-        )
+        self._report_lines(name, accounts.marked, MARKS)
         if accounts.odd:
             self._console.say(
                 f"{name}: lines that aren't UTF-8, or have a zero byte: {accounts.odd:,}."
@@ -173,7 +174,9 @@ class Checking:
                 self._note_field(answer.line)
 
     def _note_field(self, line: Line) -> None:
-        """Notes a hash in Base64, and a name that has another field in an earlier line."""
+        """Notes marks, a hash in Base64, and a name with another field in an earlier line."""
+        if len(self._marked) < MAX_NAMED and has_marks(line.data):
+            self._marked.append(line.number)
         fields = fields_to_check(line.data)
         if fields is None:
             return

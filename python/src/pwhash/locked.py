@@ -42,6 +42,10 @@ class Locked(Skipping):
     def skips(self, line: Line) -> bool:
         return name_of(line) in self._names
 
+    def name_to_show(self, line: Line) -> bytes:
+        """Returns the name of a line that is left out: it is surely one, since the file has it."""
+        return name_of(line)
+
     def refuse_new(self, part_name: Optional[str]) -> None:
         """Ends the run if a name was locked during it, since its line may have been hashed."""
         if not self._can_be_read_again:

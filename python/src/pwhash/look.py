@@ -11,11 +11,12 @@ from pwhash.console import Console
 from pwhash.doubts import Doubts
 from pwhash.errors import ProblemsFound
 from pwhash.library import OVER_BUDGET
-from pwhash.lines import Line, LineGroups, name_of, refused_to_hash
+from pwhash.lines import Line, LineGroups, refused_to_hash
 from pwhash.options import Doubtful, FileOptions
 from pwhash.progress import Progress
 from pwhash.shown_names import shown_line
 from pwhash.source import Source
+from pwhash.sure_names import SureNames
 
 MAX_SHOWN = 20  # of each kind, of lines that aren't left out
 
@@ -28,6 +29,7 @@ class Look:
         self._options = options
         self._console = console
         self._doubts = Doubts(options)
+        self._sure_names = SureNames(options.input)
         self._counts: Counter[str] = Counter()
         self._hidden = 0  # problems that aren't shown
         self._has_lines = False  # whether --skip-locked and --skip-unknown leave any
@@ -80,7 +82,7 @@ class Look:
         """Shows the problems of a line: all if it is left out, and else MAX_SHOWN of each kind."""
         # Without a colon, or in a refused row, what stands first may be a password.
         is_named = b":" in line.data and line.refused_row is None
-        name = name_of(line) if is_named else b""
+        name = self._sure_names.find(line) if is_named else b""
         where = shown_line(self._source.name, line.number, name)
         for reason in reasons:
             kind = re.sub("[0-9]+", "", reason)  # the reason, whatever line it names

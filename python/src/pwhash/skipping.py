@@ -5,9 +5,10 @@ from __future__ import annotations
 import abc
 
 from pwhash.console import Console
-from pwhash.lines import Line, LineGroups, name_of
+from pwhash.lines import Line, LineGroups
 from pwhash.shown_names import shown_line
 from pwhash.source import Source
+from pwhash.sure_names import SureNames
 from pwhash.text import display_name
 
 MAX_SHOWN = 20  # lines that are reported, unless a run only looks for problems
@@ -20,6 +21,7 @@ class Skipping(abc.ABC):
         self.path = path
         self.console = console
         self._source_name = source.name
+        self._sure_names = SureNames(source.input)
         self._shows_all = shows_all
         self._is_reported = False
         self._left_out = 0
@@ -39,8 +41,8 @@ class Skipping(abc.ABC):
         """Returns whether a line that may have a name is left out."""
 
     def name_to_show(self, line: Line) -> bytes:
-        """Returns the name of a line for a message."""
-        return name_of(line)
+        """Returns the name of a line for a message, or nothing if it may be a password."""
+        return self._sure_names.find(line)
 
     @property
     def file(self) -> str:

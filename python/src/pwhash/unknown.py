@@ -31,8 +31,3 @@ class Unknown(Skipping):
         """Keeps refused rows and lines without a name, which are reported as problems."""
         name = name_of(line)
         return line.refused_row is None and bool(name) and name not in self._names
-
-    def name_to_show(self, line: Line) -> bytes:
-        """Returns no name if the password is a known name: the line may be password:name."""
-        name, _, password = line.data.partition(b":")
-        return b"" if password in self._names else name
