@@ -38,8 +38,8 @@ from pwhash.text import display_name, printable
 from pwhash.workers import Memory, Workers
 
 MARKS = (
-    "a carriage return or a byte order mark. --windows leaves it out at the end or the beginning of "
-    "a line"
+    "a carriage return or a byte order mark. --windows leaves it out at the end or the beginning "
+    "of a line"
 )
 # Refusals that apply to a password whatever the account.
 PASSWORD_REFUSALS = (LINE_TOO_LONG, PASSWORD_TOO_LONG, PASSWORD_ZERO_BYTE)
