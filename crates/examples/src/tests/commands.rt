@@ -16,7 +16,7 @@ use std::test::Fail;
 
 // What a command left: its exit status, its output, its messages on standard error, and whether it hashed nothing.
 #[derive(Drop)]
-pub struct Outcome {
+pub struct AfterRun {
     status: u8,
     out: Vec<u8>,
     faults: Vec<u8>,
@@ -29,7 +29,7 @@ fn run_within(
     words: &[&str],
     input: &[u8],
     io_call_limit: u64,
-) -> Result<Outcome, Fail>
+) -> Result<AfterRun, Fail>
     requires { io_call_limit ≤ 2 ^ 40 }
 {
     let mut arguments = Vec::new(alloc);
@@ -52,7 +52,7 @@ fn run_within(
         &mut meter,
         io_call_limit,
     );
-    Ok(Outcome {
+    Ok(AfterRun {
         status,
         out: out.into_inner(),
         faults: faults.into_inner(),
@@ -61,11 +61,11 @@ fn run_within(
 }
 
 /// Runs a command with the greatest limit on its I/O calls.
-pub fn run(alloc: Global, words: &[&str], input: &[u8]) -> Result<Outcome, Fail> {
+pub fn run(alloc: Global, words: &[&str], input: &[u8]) -> Result<AfterRun, Fail> {
     run_within(alloc, words, input, 1 << 40)
 }
 
-impl Outcome {
+impl AfterRun {
     /// Asserts the exit status, the output and the messages on standard error. `what` names the case.
     pub fn want(&self, rt: &impl Abort, what: &str, status: u8, out: &str, faults: &str) {
         let told = (self.status, self.out.as_slice(), self.faults.as_slice());
