@@ -2,6 +2,7 @@
 from __future__ import annotations
 
 import random
+import re
 from dataclasses import dataclass
 from pathlib import Path
 
@@ -91,6 +92,17 @@ class Job:
         return run(PWHASH, self.command, *self.words, BUDGET, *self.more, *words, stdin=stdin)
 
 
+# pwhash check's hint at passwords that end with a carriage return. mkpasswd gives none.
+HINT = re.compile(
+    rb"^pwhash: [^\n]*: a carriage return or a byte order mark\.[^\n]*\n", re.MULTILINE
+)
+
+
+def without_hint(messages: bytes) -> bytes:
+    """Returns pwhash's messages without its hint at carriage returns."""
+    return HINT.sub(b"", messages)
+
+
 REHASH = ("--rehash", "-m", "sha256crypt", "-R", "1000", "-S", "ab")
 JOBS = [
     Job(
@@ -111,7 +123,7 @@ JOBS = [
 def test_lines_of_a_pipe_get_the_answers_of_mkpasswd(program: Path, job: Job) -> None:
     expected, done = job.by_mkpasswd(program), job.by_pwhash(stdin=job.lines())
     assert done.status == expected.status, done
-    is_same = (done.stdout, done.stderr) == (expected.stdout, expected.stderr)
+    is_same = (done.stdout, without_hint(done.stderr)) == (expected.stdout, expected.stderr)
     assert is_same, first_difference(expected, done)
 
 
