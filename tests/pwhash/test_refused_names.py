@@ -32,7 +32,7 @@ def test_a_file_gives_no_hash_of_a_name_whose_first_line_is_refused(
     words = ("-o", "hashes", "--skip-refused", "--skip-doubtful")
     done = pwhash("file", *MD5CRYPT, *options, save("list", lines), *words)
     assert (done.status, read("hashes")) == (1, BOB), done
-    again = re.search(rb"\(ann\): the name again, after line [0-9]+(.*)", done.err)
+    again = re.search(rb"line [0-9]+: the name again, after line [0-9]+(.*)", done.err)
     assert again and b"refused" in again[1], done
 
 
